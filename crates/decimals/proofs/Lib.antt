@@ -1,0 +1,4 @@
+pub mod Counts
+pub mod Puts
+pub mod Magnitudes
+pub mod Texts

@@ -1,0 +1,46 @@
+-- A text written to the front of a buffer, or refused for want of room.
+-- Assumes nothing.
+use mathlib.Core.Path.{_≡_, refl, sym, ap, _∙_, subst}
+use mathlib.Core.Bool.{Bool, true, false, cond}
+use mathlib.Core.List.{List, [], _∷_, _++_, append-assoc, append-nil}
+use Prim.Native.Nat.{ℕ, _+_, _-_, _≤_, _<_}
+use native.Mathlib.Omega.{arith}
+use lib.Dec.{leb}
+use lib.ListN.{length, take, drop, length-append, length-drop}
+use lib.Seq.{take-at, drop-at, drop-drop}
+use borrow.Author.Tests.{le-leb, lt-leb}
+use Rattle.ground.proofs.Tests.{one-result}
+use Rattle.refusals.specs.declared.Refusal.{Refusal}
+use Rattle.lent.specs.declared.Written.{Written}
+use Rattle.lent.specs.declared.Written.the-variants.{Length, Refused}
+use Rattle.lent.specs.Left.{Left, onto, refusing, writing, Leaves}
+
+-- any two results that a contract by `Leaves` allows are equal, and so are the buffers
+pub one-left : {left : Left} {r s : Written} {d e : List ℕ} → Leaves left r d → Leaves left s e → (r ≡ s) × (d ≡ e)
+one-left p q = (one-result (p .answers) (q .answers), one-result (p .holds) (q .holds))
+
+-- a call for a text serves for one that is equal
+pub leaves-as : (short : ℕ → Refusal) {a b : List ℕ} (buffer : List ℕ) {r : Written} {exit : List ℕ} → a ≡ b → Leaves (writing short a buffer) r exit → Leaves (writing short b buffer) r exit
+leaves-as short buffer {r} {exit} q l = subst (λ (t : List ℕ). Leaves (writing short t buffer) r exit) q l
+
+pub leaves-refused : (why : Refusal) (buffer : List ℕ) → Leaves (refusing why buffer) (Refused why) buffer
+leaves-refused why buffer = record { answers = refl; holds = refl }
+
+module _ (short : ℕ → Refusal) (text buffer : List ℕ) where
+  writing-fits : length text ≤ length buffer → writing short text buffer ≡ record { answer = Length (length text); holds = onto text buffer }
+  unfolding writing
+  writing-fits h = rw (le-leb (length text) (length buffer) h)
+
+  writing-short : length buffer < length text → writing short text buffer ≡ refusing (short (length text)) buffer
+  unfolding writing
+  writing-short h = rw (lt-leb (length text) (length buffer) h)
+
+  pub leaves-text : (n : ℕ) (exit : List ℕ) → length text ≤ length buffer → n ≡ length text → exit ≡ onto text buffer → Leaves (writing short text buffer) (Length n) exit
+  leaves-text n exit h e f = rw (writing-fits h) (record { answers = ap Length e; holds = f })
+
+  pub leaves-short : (n : ℕ) → length buffer < length text → n ≡ length text → Leaves (writing short text buffer) (Refused (short n)) buffer
+  leaves-short n h e = rw (writing-short h) (record { answers = ap (λ (k : ℕ). Refused (short k)) e; holds = refl })
+
+pub length-onto : (text buffer : List ℕ) → length text ≤ length buffer → length (onto text buffer) ≡ length buffer
+unfolding onto
+length-onto text buffer h = length-append text (drop (length text) buffer) ∙ (rw (length-drop (length text) buffer) (omega arith))

@@ -1,0 +1,11 @@
+-- Document 01, "Numbers given back" and "What is carried over", item 4: a piece written at a place, and the rest as it was.
+use mathlib.Core.Path.{_≡_}
+use mathlib.Core.List.{List}
+use Prim.Native.Nat.{ℕ, _+_}
+use lib.ListN.{length}
+use lib.Seq.{sets}
+
+-- the place after the piece, and what the buffer then holds
+pub record Puts (entry exit : List ℕ) (at : ℕ) (bytes : List ℕ) (next : ℕ) : Type 0 where
+  pub after : next ≡ at + length bytes
+  pub holds : exit ≡ sets entry at bytes

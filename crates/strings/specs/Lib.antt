@@ -1,0 +1,4 @@
+pub mod Escape
+pub mod Points
+pub mod Text
+pub mod Samples

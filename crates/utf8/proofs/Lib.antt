@@ -1,0 +1,5 @@
+pub mod Leads
+pub mod Concatenations
+pub mod Scans
+pub mod Encodings
+pub mod Results

@@ -1,0 +1,4 @@
+pub mod Rows
+pub mod Octets
+pub mod Encoding
+pub mod Examples

@@ -1,0 +1,9 @@
+pub mod Numbers
+pub mod Carries
+pub mod Orders
+pub mod Powers
+pub mod Worths
+pub mod Runs
+pub mod Extends
+pub mod Signs
+pub mod LowWords

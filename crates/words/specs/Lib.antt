@@ -1,0 +1,4 @@
+pub mod Pair
+pub mod Radix
+pub mod Run
+pub mod Extension
