@@ -11,15 +11,15 @@ use Rattle.ground.proofs.Tests.{by-order}
 use Rattle.decimals.specs.Decimal.{digitCountWithin, digitCount}
 
 -- what f + 1 digits hold
-bound : ℕ → ℕ
+unfoldable pub bound : ℕ → ℕ
 bound zero = 10
 bound (suc f) = bound f * 10
 
-few : (f n : ℕ) → n < 10 → digitCountWithin (suc f) n ≡ 1
+pub few : (f n : ℕ) → n < 10 → digitCountWithin (suc f) n ≡ 1
 unfolding digitCountWithin
 few f n h = ap (λ (b : Bool). cond b 1 (suc (digitCountWithin f (n / 10)))) (lt-ltb n 10 h)
 
-many : (f n : ℕ) → 10 ≤ n → digitCountWithin (suc f) n ≡ suc (digitCountWithin f (n / 10))
+pub many : (f n : ℕ) → 10 ≤ n → digitCountWithin (suc f) n ≡ suc (digitCountWithin f (n / 10))
 unfolding digitCountWithin
 many f n h = ap (λ (b : Bool). cond b 1 (suc (digitCountWithin f (n / 10)))) (le-ltb n 10 h)
 

@@ -2,3 +2,4 @@ pub mod Counts
 pub mod Puts
 pub mod Magnitudes
 pub mod Texts
+pub mod Values

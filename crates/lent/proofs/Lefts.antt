@@ -9,7 +9,7 @@ use lib.Dec.{leb}
 use lib.ListN.{length, take, drop, length-append, length-drop}
 use lib.Seq.{take-at, drop-at, drop-drop}
 use borrow.Author.Tests.{le-leb, lt-leb}
-use Rattle.ground.proofs.Tests.{one-result}
+use Rattle.ground.proofs.Tests.{one-result, by-order}
 use Rattle.refusals.specs.declared.Refusal.{Refusal}
 use Rattle.lent.specs.declared.Written.{Written}
 use Rattle.lent.specs.declared.Written.the-variants.{Length, Refused}
@@ -44,3 +44,34 @@ module _ (short : ℕ → Refusal) (text buffer : List ℕ) where
 pub length-onto : (text buffer : List ℕ) → length text ≤ length buffer → length (onto text buffer) ≡ length buffer
 unfolding onto
 length-onto text buffer h = length-append text (drop (length text) buffer) ∙ (rw (length-drop (length text) buffer) (omega arith))
+
+-- what the contract says in plain words: on acceptance the text stands at the front and the bytes past it are as they were; on
+-- refusal every byte is. So no program that writes past its text, or tells another length or need, meets it.
+module _ (short : ℕ → Refusal) (text buffer : List ℕ) where
+  pub written-front : {n : ℕ} {exit : List ℕ} → Leaves (writing short text buffer) (Length n) exit → (n ≡ length text) × (take n exit ≡ text) × (drop n exit ≡ drop n buffer)
+  unfolding onto
+  written-front {n} {exit} l =
+      by-order (length buffer) (length text)
+      (λ h.
+      let e : Length n ≡ Refused (short (length text)) = l .answers ∙ ap (λ (x : Left). x .answer) (writing-short short text buffer h) in
+      let z : _≡_ {A = ℕ} 0 1 = cc in
+      absurd (omega arith))
+      (λ h.
+      let e : Length n ≡ Length (length text) = l .answers ∙ ap (λ (x : Left). x .answer) (writing-fits short text buffer h) in
+      let m : n ≡ length text = cc in
+      let f : exit ≡ text ++ drop (length text) buffer = l .holds ∙ ap (λ (x : Left). x .holds) (writing-fits short text buffer h) in (
+        m,
+        ap (take n) f ∙ take-at text (drop (length text) buffer) n (sym m),
+        ap (drop n) f ∙ drop-at text (drop (length text) buffer) n (sym m) ∙ ap (λ (k : ℕ). drop k buffer) (sym m),
+      ))
+
+  pub written-not : {why : Refusal} {exit : List ℕ} → Leaves (writing short text buffer) (Refused why) exit → (why ≡ short (length text)) × (length buffer < length text) × (exit ≡ buffer)
+  written-not {why} {exit} l =
+      by-order (length buffer) (length text)
+      (λ h.
+      let e : Refused why ≡ Refused (short (length text)) = l .answers ∙ ap (λ (x : Left). x .answer) (writing-short short text buffer h) in
+      ((cc), h, l .holds ∙ ap (λ (x : Left). x .holds) (writing-short short text buffer h)))
+      (λ h.
+      let e : Refused why ≡ Length (length text) = l .answers ∙ ap (λ (x : Left). x .answer) (writing-fits short text buffer h) in
+      let z : _≡_ {A = ℕ} 0 1 = cc in
+      absurd (omega arith))

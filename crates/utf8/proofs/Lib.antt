@@ -2,4 +2,3 @@ pub mod Leads
 pub mod Concatenations
 pub mod Scans
 pub mod Encodings
-pub mod Results

@@ -1,3 +1,5 @@
+use native.Mathlib.Nat.{le-trans}
+use lib.Dec.{lit≤}
 use mathlib.Core.Path.{_∙_, sym}
 use native.Mathlib.Omega.{arith}
 use Rattle.strings.proofs.Escapes.{braced-failed, braced-few, braced-empty, braced-large, braced-point}
@@ -30,7 +32,7 @@ returns-2 c = braced-empty _ _ _ (sym (c .before .before .before .before .hex-di
 
 -- src/escape.rt:62:9
 returns-3 : tie.Need-returns-3
-returns-3 c = braced-large _ _ _ (sym (c .before .before .before .before .before .hex-digits .ensures) ∙ c .before .before .before .found .given .1) (c .if2 .taken)
+returns-3 c = braced-large _ _ _ (sym (c .before .before .before .before .before .hex-digits .ensures) ∙ c .before .before .before .found .given .1) (le-trans (lit≤ tt) (c .if2 .taken))
 
 -- src/escape.rt:66:16
 add-t7 : tie.Need-add-t7

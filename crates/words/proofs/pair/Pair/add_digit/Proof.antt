@@ -1,3 +1,5 @@
+use native.Mathlib.Nat.{le-trans}
+use lib.Dec.{lit≤}
 use native.Mathlib.Omega.{arith}
 use mathlib.Core.Path.{_≡_, ap, _∙_, subst, sym}
 use Prim.Native.Nat.{ℕ, _+_, _*_, _^_}
@@ -49,7 +51,7 @@ add-fourth c = let a = c .before .args in record { fits = fourth-fits _ _ _ _ (a
 
 -- src/pair.rt:55:13
 returns : tie.Need-returns
-returns c = let a = c .before .before .args in let n : ℕ = a .self .low + a .self .high * 2 ^ 64 in digit-over (a .self .low) (a .self .high) (c .before .base .result) (a .digit) (c .if1 .taken) ∙ ap (λ (b : ℕ). grown (n * b + a .digit)) (c .before .base .ensures)
+returns c = let a = c .before .before .args in let n : ℕ = a .self .low + a .self .high * 2 ^ 64 in digit-over (a .self .low) (a .self .high) (c .before .base .result) (a .digit) (le-trans (lit≤ tt) (c .if1 .taken)) ∙ ap (λ (b : ℕ). grown (n * b + a .digit)) (c .before .base .ensures)
 
 -- src/pair.rt:58:18
 mul-t13 : tie.Need-mul-t13

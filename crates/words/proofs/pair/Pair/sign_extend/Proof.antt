@@ -38,11 +38,11 @@ enum-told c = search needs
 
 -- src/pair.rt:76:17
 returns-3 : tie.Need-returns-3
-returns-3 c = let a = c .before .before .before .before .before .before .args in pair-value (a .self) _ (search needs) (extends-low-positive (a .self .low) (a .self .high) (a .width) (search needs) (omega arith) (c .before .before .before .if3 .taken) (sym (c .before .before .fill-from .ensures) ∙ c .enum-told .given .1))
+returns-3 c = let a = c .before .before .before .before .before .before .args in pair-value (a .self) _ (search needs) (extends-low-positive (a .self .low) (a .self .high) (a .width) (search needs) (omega arith) (omega arith) (sym (c .before .before .fill-from .ensures) ∙ c .enum-told .given .1))
 
 -- src/pair.rt:78:13
 returns-4 : tie.Need-returns-4
-returns-4 c = let a = c .before .before .before .before .before .before .before .args in pair-value _ _ (search needs) (extends-low-negative (a .self .low) (a .self .high) (a .width) (search needs) (omega arith) (c .before .before .before .before .if3 .taken) _ (sym (c .before .before .before .fill-from .ensures) ∙ c .before .low .given .1))
+returns-4 c = let a = c .before .before .before .before .before .before .before .args in pair-value _ _ (search needs) (extends-low-negative (a .self .low) (a .self .high) (a .width) (search needs) (omega arith) (omega arith) _ (sym (c .before .before .before .fill-from .ensures) ∙ c .before .low .given .1))
 
 -- src/pair.rt:83:41
 sub-fill-from-2 : tie.Need-sub-fill-from-2
@@ -62,11 +62,11 @@ enum-told-2 c = search needs
 
 -- src/pair.rt:85:13
 returns-5 : tie.Need-returns-5
-returns-5 c = let a = c .before .before .before .before .before .before .args in pair-value (a .self) _ (search needs) (extends-high-positive (a .self .low) (a .self .high) (a .width) (search needs) (c .before .before .before .if3 .left) (c .before .before .before .before .if2 .left) (sym (c .before .before .fill-from2 .ensures) ∙ c .enum-told2 .given .1))
+returns-5 c = let a = c .before .before .before .before .before .before .args in pair-value (a .self) _ (search needs) (extends-high-positive (a .self .low) (a .self .high) (a .width) (search needs) (omega arith) (c .before .before .before .before .if2 .left) (sym (c .before .before .fill-from2 .ensures) ∙ c .enum-told2 .given .1))
 
 -- src/pair.rt:64:5
 returns-6 : tie.Need-returns-6
-returns-6 c = let a = c .before .before .before .before .before .before .before .args in pair-value _ _ (search needs) (extends-high-negative (a .self .low) (a .self .high) (a .width) (search needs) (c .before .before .before .before .if3 .left) (c .before .before .before .before .before .if2 .left) _ (sym (c .before .before .before .fill-from2 .ensures) ∙ c .before .high .given .1))
+returns-6 c = let a = c .before .before .before .before .before .before .before .args in pair-value _ _ (search needs) (extends-high-negative (a .self .low) (a .self .high) (a .width) (search needs) (omega arith) (c .before .before .before .before .before .if2 .left) _ (sym (c .before .before .before .fill-from2 .ensures) ∙ c .before .high .given .1))
 
 pub sign-extend-spec : {M : Type 1} → statement M
 sign-extend-spec =

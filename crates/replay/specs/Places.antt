@@ -1,0 +1,7 @@
+-- No document: where the programs that replay vectors stand in what they were lent. A place inside stays inside.
+use Prim.Native.Nat.{ℕ, max, _≤_}
+
+-- from a place of so many bytes to a later one
+pub record Onward (length from to : ℕ) : Type 0 where
+  pub inside : to ≤ max from length
+  pub later : from ≤ to

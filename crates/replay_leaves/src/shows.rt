@@ -1,0 +1,125 @@
+// An answer, as a line on standard output.
+use lent::Written;
+use libc::STDOUT_FILENO;
+use utf8::Encoded;
+use words::Order;
+use words::Pair;
+use words::Parsed;
+
+fn flush(line: &mut [u8], end: usize) {
+    let to = replay::put(b"\n", line, end);
+    if to <= line.len() {
+        let zero = 0;
+        io::write_all(STDOUT_FILENO, &line[zero..to]);
+    }
+}
+
+fn word(name: &[u8], line: &mut [u8]) {
+    let end = replay::put(name, line, 0);
+    flush(line, end);
+}
+
+pub fn yes_or_no(answer: bool, line: &mut [u8]) {
+    if answer {
+        word(b"yes", line);
+    } else {
+        word(b"no", line);
+    }
+}
+
+pub fn order(answer: Order, line: &mut [u8]) {
+    match answer {
+        Order::Less => word(b"less", line),
+        Order::Same => word(b"same", line),
+        Order::More => word(b"more", line),
+    }
+}
+
+pub fn pair(answer: Pair, line: &mut [u8]) {
+    let name = replay::put(b"number=", line, 0);
+    let high = replay::put_word(answer.high, line, name);
+    let end = replay::put_word(answer.low, line, high);
+    flush(line, end);
+}
+
+fn refusal(number: u64, line: &mut [u8]) {
+    let name = replay::put(b"refused=", line, 0);
+    let end = replay::put_number(number, line, name);
+    flush(line, end);
+}
+
+pub fn parsed(answer: Parsed, line: &mut [u8]) {
+    match answer {
+        Parsed::Number(number) => pair(number, line),
+        Parsed::Refused(why) => refusal(why.number(), line),
+    }
+}
+
+fn hex(bytes: &[u8], line: &mut [u8]) {
+    let name = replay::put(b"bytes=", line, 0);
+    let end = replay::put_hex(bytes, line, name);
+    flush(line, end);
+}
+
+pub fn encoding(answer: Encoded, line: &mut [u8]) {
+    match answer {
+        Encoded::One(a) => hex(&[a], line),
+        Encoded::Two(a, b) => hex(&[a, b], line),
+        Encoded::Three(a, b, c) => hex(&[a, b, c], line),
+        Encoded::Four(a, b, c, d) => hex(&[a, b, c, d], line),
+        Encoded::NoEncoding => hex(b"", line),
+    }
+}
+
+pub fn natural(number: u64, line: &mut [u8]) {
+    decimal(decimals::write_natural(number, line), line);
+}
+
+pub fn signed(number: i64, line: &mut [u8]) {
+    decimal(decimals::write_signed(number, line), line);
+}
+
+fn decimal(written: Written, line: &mut [u8]) {
+    let Written::Length(end) = written else {
+        return;
+    };
+    flush(line, end);
+}
+
+pub fn string(answer: Written, text: &[u8], line: &mut [u8]) {
+    match answer {
+        Written::Length(count) => {
+            if count <= text.len() {
+                let zero = 0;
+                io::write_all(STDOUT_FILENO, b"text=");
+                replay::write_hex(&text[zero..count], line);
+                io::write_all(STDOUT_FILENO, b"\n");
+            }
+        }
+        Written::Refused(why) => refusal(why.number(), line),
+    }
+}
+
+// The answer with its detail, and every byte that was lent.
+pub fn lent(answer: Written, buffer: &[u8], line: &mut [u8]) {
+    match answer {
+        Written::Length(count) => {
+            let name = replay::put(b"length=", line, 0);
+            let end = replay::put_number(count as u64, line, name);
+            lent_buffer(buffer, line, end);
+        }
+        Written::Refused(why) => {
+            let name = replay::put(b"refused=", line, 0);
+            let number = replay::put_number(why.number(), line, name);
+            let detail = replay::put(b" detail=", line, number);
+            let end = replay::put_number(why.detail() as u64, line, detail);
+            lent_buffer(buffer, line, end);
+        }
+    }
+}
+
+fn lent_buffer(buffer: &[u8], line: &mut [u8], start: usize) {
+    let name = replay::put(b" buffer=", line, start);
+    let end = replay::put_hex(buffer, line, name);
+    flush(line, end);
+}

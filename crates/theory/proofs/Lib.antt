@@ -1,0 +1,7 @@
+pub mod Digits
+pub mod Forms
+pub mod Quotes
+pub mod Sizes
+pub mod Braces
+pub mod Places
+pub mod Agreements

@@ -1,0 +1,4 @@
+pub mod Literal
+pub mod Theory
+pub mod Agreement
+pub mod Examples

@@ -1,0 +1,355 @@
+"""Document 01's model walk and listing read a second time, in Python, from its words alone.
+
+Beside document 01's rules it knows, one by one, the crate's ways that docs/DIFFERENCES.md lists: with all of
+them taken up its answers have to be the crate's, with none of them they are document 01's.
+"""
+
+from typing import NamedTuple, Optional
+
+from reading import Arena, Refused, answered
+
+DEEPEST = 1023
+BOOL, STRING, ADDRESS = ("bool",), ("string",), ("ipaddr",)
+PLAIN = {b"Bool": BOOL, b"String": STRING, b"Decimal": ("decimal",), b"Datetime": ("datetime",), b"Duration": ("duration",)}
+SIGNED = {b"Decimal": "d", b"Datetime": "t", b"Duration": "u"}
+OPERATORS = {(b"not", 2), (b"or", 3), (b"=", 3), (b"ite", 4), (b"bvnego", 2), (b"bvsaddo", 3), (b"bvsmulo", 3), (b"V4", 3), (b"V6", 3)}
+CRATE = frozenset(["D1", "D2", "D3", "D4", "D5", "D6", "D7", "D8", "S2", "S3"])
+
+
+class Value(NamedTuple):
+    sort: tuple
+    text: str
+    members: Optional[frozenset] = None
+
+
+class Tables:
+    """The rows of tables.txt; a sort is its structure, entities and records by name."""
+
+    def __init__(self, text, ways):
+        self.sorts, self.named, self.vars, self.funs, self.enums, self.fields = [], {}, {}, {}, {}, {}
+        for line in text.decode().split("\n")[:-1]:
+            kind, rest = line.split("=", 1)
+            getattr(self, "add_" + kind)(rest, ways)
+
+    def add_sort(self, rest, ways):
+        kind, *parts = rest.split(" ")
+        row = len(self.sorts)
+        if kind == "bitvec":
+            sort = (kind, int(parts[0]))
+        elif kind in ("option", "set"):
+            sort = (kind, self.sorts[int(parts[0])])
+        elif kind == "entity":
+            sort = (kind, row)
+        elif kind == "record":
+            # The crate knows a record by its fields, so that those without any are one.
+            empty = [other for other in self.fields if not self.fields[other]]
+            sort = empty[0] if empty and len(parts) == 1 and "D8" in ways else (kind, row)
+            self.fields[sort] = [self.sorts[int(field)] for field in parts[1:]]
+        else:
+            sort = (kind,)
+        if kind in ("entity", "record"):
+            self.named[parts[0].encode()] = sort
+        self.sorts.append(sort)
+
+    def add_var(self, rest, _ways):
+        name, row = rest.split(" ")
+        self.vars[name.encode()] = int(row)
+
+    def add_fun(self, rest, _ways):
+        name, arg, out = rest.split(" ")
+        self.funs[name.encode()] = (int(arg), int(out))
+
+    def add_enum(self, rest, _ways):
+        name, row, text = rest.split(" ", 2)
+        sort = self.sorts[int(row)]
+        self.enums[name.encode()] = Value(sort, f"e{sort[1]}:{text.encode().hex()}")
+
+
+def tree(raw):
+    """The reader's tree: an application is a list, an atom a tuple."""
+    arena = Arena(raw)
+    root = []
+    open_lists = [(root, len(arena.nodes))]
+    for at, (kind, first, second, third) in enumerate(arena.nodes):
+        while at >= open_lists[-1][1]:
+            open_lists.pop()
+        if kind == 5:
+            node = []
+        elif kind in (3, 4):
+            node = (kind, bytes(arena.text[second:second + first]))
+        else:
+            node = (kind, second + third * 2 ** 64, first)
+        open_lists[-1][0].append(node)
+        if kind == 5:
+            open_lists.append((node, second))
+    return root[0]
+
+
+def is_symbol(node, name=None):
+    return isinstance(node, tuple) and node[0] == 4 and (name is None or node[1] == name)
+
+
+def is_app(node, name, count=None):
+    return isinstance(node, list) and node[:1] == [(4, name)] and (count is None or len(node) == count)
+
+
+def braces(texts):
+    return "{" + ",".join(sorted(texts, key=str.encode)) + "}"
+
+
+class Walk:
+    """One walk over a model."""
+
+    def __init__(self, tables, ways):
+        self.ways = ways
+        self.tables = Tables(tables, ways)
+        self.known = set(self.tables.sorts)
+        self.vars, self.funs = {}, {}
+
+    def has(self, way):
+        return way in self.ways
+
+    def met(self, sort):
+        """A sort met or formed needs a row."""
+        if sort not in self.known and not self.has("S2"):
+            raise Refused(23)
+        return sort
+
+    def enter(self, level):
+        if level > DEEPEST and not self.has("S3"):
+            raise Refused(24)
+
+    def sort(self, node, level=0):
+        self.enter(level)
+        if is_symbol(node):
+            name = node[1]
+            if name == b"IPAddr" and self.has("D3"):
+                return ADDRESS
+            if name in PLAIN:
+                return self.met(PLAIN[name])
+            if name in self.tables.named:
+                return self.tables.named[name]
+        elif is_app(node, b"_", 3) and is_symbol(node[1], b"BitVec") and node[2][:1] == (2,):
+            return self.met(("bitvec", self.width(node[2][1])))
+        elif is_app(node, b"Option", 2) or is_app(node, b"Set", 2):
+            kind = "option" if is_app(node, b"Option") else "set"
+            return self.met((kind, self.sort(node[1], level + 1)))
+        raise Refused(14)
+
+    @staticmethod
+    def width(number):
+        if number > 2 ** 32 - 1:
+            raise Refused(7)
+        if number == 0:
+            raise Refused(8)
+        return number
+
+    def value(self, node, expected=None, level=0):
+        self.enter(level)
+        if isinstance(node, list):
+            return self.application(node, expected, level)
+        if node[0] == 1:
+            return self.vector(node[2], node[1] - 2 ** 128 if node[1] >= 2 ** 127 and node[2] > 128 else node[1])
+        if node[0] == 3:
+            return Value(self.met(STRING), "s:" + node[1].hex())
+        if node[0] == 4:
+            return self.atom(node[1], expected)
+        raise Refused(15)
+
+    def vector(self, width, number):
+        digits = (width + 3) // 4
+        return Value(self.met(("bitvec", width)), f"bv{width}:{number % 2 ** width:0{digits}x}")
+
+    def atom(self, name, expected):
+        if name in (b"true", b"false"):
+            return Value(self.met(BOOL), name.decode())
+        if name == b"none" and self.has("D1") and expected and expected[0] == "option":
+            return Value(expected, "none")
+        if name in self.tables.named and self.has("D2"):
+            return self.named(name, [], 0)
+        if name in self.tables.enums:
+            return self.tables.enums[name]
+        raise Refused(15)
+
+    def application(self, node, expected, level):
+        """The arms of `decode_literal_app`, in order."""
+        head = node[0][1] if node and is_symbol(node[0]) else None
+        if (head, len(node)) in OPERATORS:
+            raise Refused(22)
+        if head == b"as" and len(node) == 3 and is_symbol(node[1], b"none"):
+            return self.empty("option", node[2], level)
+        if head is None and len(node) == 2 and is_app(node[0], b"as", 3) and is_symbol(node[0][1], b"some"):
+            return self.typed_some(node, level)
+        if head == b"some" and len(node) == 2:
+            return self.some(node[1], self.inside("option", expected), level)
+        if head == b"as" and len(node) == 3 and is_symbol(node[1], b"set.empty"):
+            return self.empty("set", node[2], level)
+        if head == b"set.singleton" and len(node) == 2:
+            member = self.value(node[1], self.inside("set", expected), level + 1)
+            return Value(self.met(("set", member.sort)), braces([member.text]), frozenset([member.text]))
+        if head == b"set.union" and len(node) == 3:
+            return self.union(node, expected, level)
+        if head in SIGNED and len(node) == 2 and node[1][:1] == (1,) and node[1][2] == 64:
+            number = node[1][1] % 2 ** 64
+            number -= 2 ** 64 if number >= 2 ** 63 else 0
+            return Value(self.met(PLAIN[head]), f"{SIGNED[head]}:{number}")
+        if head == b"_" and len(node) == 3 and is_symbol(node[1]) and node[1][1][:2] == b"bv" and node[2][:1] == (2,):
+            return self.indexed(node[1][1][2:], node[2][1])
+        if head is not None:
+            return self.named(head, node[1:], level)
+        raise Refused(15)
+
+    @staticmethod
+    def inside(kind, expected):
+        """What an option or a set expects inside it; another expectation refuses the arm."""
+        if expected is None:
+            return None
+        if expected[0] != kind:
+            raise Refused(15)
+        return expected[1]
+
+    def empty(self, kind, node, level):
+        sort = self.sort(node, level + 1)
+        if sort[0] != kind:
+            raise Refused(19 if kind == "option" else 20)
+        return Value(sort, "none") if kind == "option" else Value(sort, "{}", frozenset())
+
+    def some(self, node, inner, level):
+        value = self.value(node, inner, level + 1)
+        return Value(self.met(("option", value.sort)), f"some({value.text})")
+
+    def typed_some(self, node, level):
+        sort = self.sort(node[0][2], level + 1)
+        value = self.some(node[1], sort[1] if sort[0] == "option" else None, level)
+        if value.sort != sort:
+            raise Refused(16)
+        return value
+
+    def union(self, node, expected, level):
+        one, other = (self.value(part, expected, level + 1) for part in node[1:])
+        if one.sort != other.sort:
+            raise Refused(16)
+        if one.members is None:
+            raise Refused(28)
+        members = one.members | other.members
+        return Value(one.sort, braces(members), members)
+
+    def indexed(self, digits, width):
+        """`(_ bvN W)`; one leading `+` passes."""
+        digits = digits[1:] if digits[:1] == b"+" else digits
+        if not digits or any(digit not in b"0123456789" for digit in digits) or int(digits) >= 2 ** 128:
+            raise Refused(4)
+        width = self.width(width)
+        if width < 128 and int(digits) >= 2 ** width:
+            raise Refused(7)
+        return self.vector(width, int(digits))
+
+    def named(self, name, parts, level):
+        sort = self.tables.named.get(name, ("",))
+        if sort[0] == "entity" and len(parts) == 1 and parts[0][:1] == (3,):
+            return Value(sort, f"e{sort[1]}:{parts[0][1].hex()}")
+        if sort[0] != "record":
+            raise Refused(15)
+        fields = self.tables.fields[sort]
+        if len(parts) != len(fields):
+            raise Refused(18)
+        texts = []
+        for part, field in zip(parts, fields):
+            value = self.value(part, field, level + 1)
+            if value.sort != field:
+                raise Refused(17)
+            texts.append(value.text)
+        return Value(sort, f"r{sort[1]}({','.join(texts)})")
+
+    def test(self, node, arg):
+        """The key of a test; it expects no sort."""
+        if is_app(node, b"=", 3):
+            if is_symbol(node[1], arg):
+                return self.value(node[2])
+            if is_symbol(node[2], arg):
+                return self.value(node[1])
+        raise Refused(13 if self.has("D5") else 21)
+
+    def fits(self, value, sort):
+        if value.sort != sort and not self.has("D6"):
+            raise Refused(16)
+
+    def body(self, node, arg, sort, out):
+        """The arms and the default of a function's body."""
+        true, false = Value(BOOL, "true"), Value(BOOL, "false")
+        if is_app(node, b"=") and self.has("D4"):
+            return {self.test(node, arg): true}, false
+        if is_app(node, b"or"):
+            if out != BOOL and not self.has("D7"):
+                raise Refused(16)
+            arms = {}
+            for part in node[1:]:
+                key = self.test(part, arg)
+                self.fits(key, sort)
+                arms[key] = true
+            return arms, false
+        arms = {}
+        while is_app(node, b"ite", 4):
+            key, value = self.test(node[1], arg), self.value(node[2], out)
+            self.fits(key, sort)
+            self.fits(value, out)
+            arms[key] = value
+            node = node[3]
+        default = self.value(node, out)
+        self.fits(default, out)
+        return arms, default
+
+    def variable(self, name, sort, value):
+        if name not in self.tables.vars:
+            return
+        sort = self.sort(sort)
+        value = self.value(value, sort)
+        if value.sort != sort or self.tables.sorts[self.tables.vars[name]] != sort:
+            raise Refused(16)
+        self.vars[name] = value
+
+    def function(self, name, arg, arg_sort, out_sort, body):
+        if name not in self.tables.funs:
+            return
+        sorts = [self.sort(arg_sort), self.sort(out_sort)]
+        if sorts != [self.tables.sorts[row] for row in self.tables.funs[name]]:
+            raise Refused(16)
+        self.funs[name] = self.body(body, arg, *sorts)
+
+    def command(self, node):
+        shaped = is_app(node, b"define-fun", 5) and is_symbol(node[1]) and isinstance(node[2], list)
+        if shaped and not node[2]:
+            self.variable(node[1][1], *node[3:])
+        elif shaped and len(node[2]) == 1 and isinstance(node[2][0], list) and len(node[2][0]) == 2 and is_symbol(node[2][0][0]):
+            self.function(node[1][1], node[2][0][0][1], node[2][0][1], *node[3:])
+        else:
+            raise Refused(13)
+
+    def listing(self):
+        lines = [f"vars={len(self.vars)}", f"funs={len(self.funs)}"]
+        for name, row in self.tables.vars.items():
+            if name in self.vars:
+                lines += [f"var={name.decode()}", f"sort={row}", f"value={self.vars[name].text}"]
+        for name, (arg, out) in self.tables.funs.items():
+            if name in self.funs:
+                arms, default = self.funs[name]
+                lines += [f"fun={name.decode()}", f"arg={arg}", f"out={out}"]
+                for key, value in sorted((key.text.encode(), value.text) for key, value in arms.items()):
+                    lines += [f"when={key.decode()}", f"then={value}"]
+                lines.append(f"else={default.text}")
+        return "\n".join(lines) + "\n"
+
+
+def listings(line, ways=frozenset()):
+    """The answer to a case of the oracle's `listings`, by document 01 and the crate's ways taken up."""
+    tables, model = (bytes.fromhex(part) for part in line.split(" "))
+
+    def reading():
+        root = tree(model)
+        walk = Walk(tables, ways)
+        if not isinstance(root, list):
+            raise Refused(13)
+        for node in root:
+            walk.command(node)
+        return "listing=" + walk.listing().encode().hex()
+    return answered(reading)
