@@ -10,7 +10,7 @@ use lib.Seq.{drop-drop}
 use Rattle.ground.proofs.Lists.{at-place}
 use Rattle.ground.proofs.Tests.{by-test}
 use Rattle.lent.specs.Left.{onto}
-use Rattle.lent.specs.Put.{Puts}
+use Rattle.lent.specs.Put.{Puts, Fronts}
 use Rattle.lent.proofs.Pieces.{piece-long, piece-front, piece-behind}
 use Rattle.utf8.specs.declared.Encoded.{Encoded}
 use Rattle.utf8.specs.Encoding.{scalar, encoded, bytesOf}
@@ -155,12 +155,15 @@ module _ (s entry : List ℕ) (to at : ℕ) (out : List ℕ) (so : Writing s ent
     behind = piece-behind p (length (text s)) (omega (arith, so .sum, opened-length, p .after)) ∙ so .behind;
   }
 
-pub writing-end : (s entry : List ℕ) (to at : ℕ) (out : List ℕ) → Writing s entry to at out → length s ≤ at → out ≡ onto (text s) entry
+pub writing-end : (s entry : List ℕ) (to at : ℕ) (out : List ℕ) → Writing s entry to at out → length s ≤ at → Fronts (text s) entry out to
 unfolding onto encodings pointsAfter
 writing-end s entry to at out so past =
     let d : encodings (points (drop at s)) ≡ [] = ap (λ (l : List ℕ). encodings (points l)) (drop-of-length-le s past) in
     let z : length (encodings (points (drop at s))) ≡ 0 = ap length d in
     let e : to ≡ length (text s) = omega (arith, so .sum) in
     let f : take to out ≡ text s = sym (append-nil (take to out)) ∙ ap (λ (l : List ℕ). take to out ++ l) (sym d) ∙ so .front in
-    sym (take-append-drop to out) ∙ ap (λ (l : List ℕ). l ++ drop to out) f
-    ∙ ap (λ (l : List ℕ). text s ++ l) (ap (λ (k : ℕ). drop k out) e ∙ so .behind)
+    record {
+      long = e;
+      holds = sym (take-append-drop to out) ∙ ap (λ (l : List ℕ). l ++ drop to out) f
+          ∙ ap (λ (l : List ℕ). text s ++ l) (ap (λ (k : ℕ). drop k out) e ∙ so .behind);
+    }

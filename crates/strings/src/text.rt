@@ -8,10 +8,10 @@ use utf8::encoded_length;
 ghost use mathlib.Core.Path.{_≡_};
 ghost use Prim.Native.Nat.{_+_, _≤_};
 ghost use lib.ListN.{length};
-ghost use Rattle.lent.specs.Left.{onto, Leaves};
+ghost use Rattle.lent.specs.Left.{Leaves};
 ghost use Rattle.utf8.specs.Encoding.{bytesOf};
 ghost use Rattle.strings.specs.Text.{text, measured, decoded};
-ghost use Rattle.lent.specs.Put.{Puts};
+ghost use Rattle.lent.specs.Put.{Puts, Fronts};
 
 pub enum Measured {
     Text(usize),
@@ -68,10 +68,10 @@ fn put(out: &mut [u8], at: usize, bytes: Encoded) -> usize
     }
 }
 
-// The text at the front of a buffer that has room for it.
-pub fn write_text(s: &[u8], out: &mut [u8])
+// The text at the front of a buffer that has room for it; answers its length.
+pub fn write_text(s: &[u8], out: &mut [u8]) -> usize
     requires { ⌜ length (text (now s)) ≤ length (now out) ⌝ }
-    ensures { λ _. ⌜ now (out .exit) ≡ onto (text (now (s .entry))) (now (out .entry)) ⌝ }
+    ensures { λ r. ⌜ Fronts (text (now (s .entry))) (now (out .entry)) (now (out .exit)) r ⌝ }
 {
     let mut to = 0;
     let mut at = 0;
@@ -81,6 +81,7 @@ pub fn write_text(s: &[u8], out: &mut [u8])
         to = put(out, to, bytes);
         at = at + 1 + found.more;
     }
+    to
 }
 
 // The text of a string literal's inside, or a refusal: 9 for a string too long, 3 for a surrogate, 11 with the need for want of room.

@@ -42,7 +42,7 @@ same-length c = search needs
 
 -- src/text.rt:87:1
 returns-4 : tie.Need-returns-4
-returns-4 c = decoded-text (c .before .before .before .before .before .before .before .before .before .before .before .before .args .s .now) (c .before .before .before .before .before .before .before .before .before .before .before .before .args .out .now) (c .before .before .before .before .before .before .before .before .before .if1 .left) _ (sym (c .before .before .before .before .before .before .before .before .measure .ensures) ∙ c .before .before .before .before .before .before .found .given .1) (c .before .before .before .before .if2 .left) _ (c .before .before .write-text .ensures)
+returns-4 c = decoded-text (c .before .before .before .before .before .before .before .before .before .before .before .before .args .s .now) (c .before .before .before .before .before .before .before .before .before .before .before .before .args .out .now) (c .before .before .before .before .before .before .before .before .before .if1 .left) _ (sym (c .before .before .before .before .before .before .before .before .measure .ensures) ∙ c .before .before .before .before .before .before .found .given .1) (c .before .before .before .before .if2 .left) _ (c .before .before .write-text .ensures .holds)
 
 pub decode-string-spec : {M : Type 1} → statement M
 decode-string-spec =

@@ -1,0 +1,7 @@
+pub mod Tree
+pub mod Layout
+pub mod Arena
+pub mod Node
+pub mod Text
+pub mod Stands
+pub mod Samples

@@ -1,0 +1,42 @@
+-- Document 01, "The arena", the table of kinds: what the words of a node say.
+use mathlib.Core.Bool.{cond}
+use mathlib.Core.List.{List}
+use Prim.Native.Nat.{ℕ, _+_, _*_, _/_}
+use lib.Dec.{eqb, ltb}
+use lib.ListN.{length, getD}
+use Rattle.arena.specs.declared.node.Node.{Node}
+use Rattle.arena.specs.declared.node.Node.the-variants.{BitVec, Numeral, String, Symbol, App, NoNode}
+use Rattle.arena.specs.Layout.{stride}
+
+-- a word that the table gives as 0
+abbrev pub unused : ℕ → Node → Node
+unused word node = cond (eqb word 0) node NoNode
+
+-- a kind, and words 1 to 3
+abbrev pub nodeOf : ℕ → ℕ → ℕ → ℕ → Node
+nodeOf kind one two three =
+    cond (eqb kind 1) (BitVec one two three)
+    (cond (eqb kind 2) (unused one (Numeral two three))
+    (cond (eqb kind 3) (unused three (String one two))
+    (cond (eqb kind 4) (unused three (Symbol one two))
+    (cond (eqb kind 5) (unused three (App one two))
+    NoNode))))
+
+-- node i, where the words have one
+unfoldable pub nodeAt : List ℕ → ℕ → Node
+nodeAt ws i =
+    cond (ltb i (length ws / stride))
+    (nodeOf (getD ws (i * stride) 0) (getD ws (i * stride + 1) 0) (getD ws (i * stride + 2) 0) (getD ws (i * stride + 3) 0))
+    NoNode
+
+abbrev pub afterOf : Node → ℕ → ℕ
+afterOf (BitVec width low high) i = i + 1
+afterOf (Numeral low high) i = i + 1
+afterOf (String length offset) i = i + 1
+afterOf (Symbol length offset) i = i + 1
+afterOf (App children end) i = end
+afterOf NoNode i = i
+
+-- the node after node i and its descendants
+abbrev pub afterAt : List ℕ → ℕ → ℕ
+afterAt ws i = afterOf (nodeAt ws i) i

@@ -1,0 +1,10 @@
+// The arena of a tree: its nodes' words and its text, and the one view of a node that every reader of words shares.
+mod node;
+mod text;
+
+pub use node::Node;
+pub use node::STRIDE;
+pub use node::after;
+pub use node::node_at;
+pub use text::same;
+pub use text::text_is;

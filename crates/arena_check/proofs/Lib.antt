@@ -1,0 +1,10 @@
+pub mod Told
+pub mod Vectors
+pub mod Chains
+pub mod Texts
+pub mod Passes
+pub mod Offsets
+pub mod Builds
+pub mod Insides
+pub mod Answers
+pub mod Walks

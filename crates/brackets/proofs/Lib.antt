@@ -1,0 +1,9 @@
+pub mod Steps
+pub mod Leaves
+pub mod Snoc
+pub mod Rust
+pub mod Frames
+pub mod Upto
+pub mod Laid
+pub mod Agree
+pub mod Next

@@ -1,0 +1,4 @@
+pub mod Token
+pub mod Walk
+pub mod Count
+pub mod Put

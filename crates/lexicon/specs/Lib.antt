@@ -1,0 +1,4 @@
+pub mod Class
+pub mod Span
+pub mod Symbol
+pub mod Examples

@@ -1,0 +1,11 @@
+pub mod Turns
+pub mod Sofar
+pub mod Atoms
+pub mod Pieces
+pub mod Holds
+pub mod Answers
+pub mod Results
+pub mod Bounds
+pub mod Signs
+pub mod Sounds
+pub mod Excluded

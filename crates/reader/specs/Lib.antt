@@ -1,0 +1,5 @@
+pub mod Tally
+pub mod Read
+pub mod Write
+pub mod Judge
+pub mod Samples

@@ -1,0 +1,7 @@
+// The reader: one S-expression's tree, into lent nodes, text and bracket stack.
+mod read;
+mod tally;
+mod write;
+
+pub use read::Reading;
+pub use read::parse_sexpr;
