@@ -1,5 +1,5 @@
 # What people type. Each target says what it needs.
-.PHONY: test oracle vectors confirm compare
+.PHONY: test oracle vectors confirm compare bench
 
 # Proves every crate, tries every must-fail edit, runs every program: the gate. Needs the Rattle toolchain.
 test:
@@ -22,3 +22,9 @@ SEED ?= 2026
 COUNT ?= 20000
 compare: oracle
 	python3 oracle/compare.py $(SEED) $(COUNT)
+
+# Times our reader beside the crate's on the real replies, in one run. Needs the toolchain and the oracle's packages, on x86-64.
+bench:
+	rt staticlib reader_c
+	$(MAKE) -C oracle bench
+	find vectors/replies -name '*.model.txt' | sort | target/oracle/bench/release/oracle bench

@@ -3,8 +3,9 @@
 from pathlib import Path
 
 HERE = Path(__file__).resolve().parent
-LEAVES = HERE.parent / "crates" / "replay_leaves"
-REPLAYED = {"strings": (LEAVES / "stdin", LEAVES / "stdout")}
+CRATES = HERE.parent / "crates"
+REPLAYED = {name: (CRATES / program / "stdin", CRATES / program / "stdout")
+            for name, program in (("strings", "replay_leaves"), ("trees", "replay_trees"))}
 
 
 def files(name):
@@ -17,7 +18,7 @@ def rows(path):
 
 
 def read(name):
-    """The cases and the crate's answers; cases with a capital letter before them are the leaves' own and have no Rust."""
+    """The cases and the crate's answers; cases with a capital letter before them are our own and have no Rust."""
     pairs = zip(*map(rows, files(name)))
     kept = [(case, answer) for case, answer in pairs if not case[:1].isupper()]
     return [case for case, _ in kept], [answer for _, answer in kept]

@@ -13,7 +13,7 @@ HERE = Path(__file__).resolve().parent
 sys.path.append(str(HERE.parent / "oracle"))
 import walk  # noqa: E402  (the path above has to come first)
 from asking import answers  # noqa: E402
-from cases import leaves, lines, listings, strings, trees  # noqa: E402
+from cases import leaves, lines, listings, rooms, strings, trees  # noqa: E402
 from lists import files  # noqa: E402
 
 SEED = 20261115
@@ -37,23 +37,15 @@ def table(name, spans):
     return [f"| {name} | {first}-{last} | {origin} |" for first, last, origin in spans if last >= first]
 
 
-def put(name, mode, ranges):
-    """Writes a list and its answers; gives back the lines for the table of ranges."""
-    cases, spans = gathered(ranges)
-    for path, rows in zip(files(name), (cases, answers(mode, cases))):
+def put(name, mode, ranges, own_ranges=()):
+    """Writes a list and its answers, behind it cases of our own, whose answers need no Rust; gives back the lines for the table of ranges."""
+    cases, spans = gathered(ranges + [(origin, [case for case, _ in pairs]) for origin, pairs in own_ranges])
+    asked = spans[len(ranges) - 1][1]
+    own = dict(pair for _, pairs in own_ranges for pair in pairs)
+    found = answers(mode, cases[:asked]) + [own[case] for case in cases[asked:]]
+    for path, rows in zip(files(name), (cases, found)):
         written(path, rows)
     return table(name, spans)
-
-
-def put_leaves(ranges):
-    """The strings' list, and behind it the cases of the other leaves, whose answers need no Rust."""
-    cases, spans = gathered(ranges + [(origin, [case for case, _ in pairs]) for origin, pairs in leaves.ranges()])
-    strings_end = spans[len(ranges) - 1][1]
-    own = dict(pair for _, pairs in leaves.ranges() for pair in pairs)
-    found = answers("strings", cases[:strings_end]) + [own[case] for case in cases[strings_end:]]
-    for path, rows in zip(files("strings"), (cases, found)):
-        written(path, rows)
-    return table("strings", spans)
 
 
 def in_hex(ranges):
@@ -107,8 +99,8 @@ def main():
     replies = list(dict.fromkeys(path.read_bytes() for path in real("model") + real("value")))
     (HERE / "listings").mkdir(exist_ok=True)
     # One generator a list, so that a change to one list leaves the others as they are.
-    rows = put_leaves(in_hex(strings.ranges(random.Random(f"{seed} strings"), replies)))
-    rows += put("trees", "trees", in_hex(trees.ranges(random.Random(f"{seed} trees"), replies)))
+    rows = put("strings", "strings", in_hex(strings.ranges(random.Random(f"{seed} strings"), replies)), leaves.ranges())
+    rows += put("trees", "trees", in_hex(trees.ranges(random.Random(f"{seed} trees"), replies)), rooms.ranges())
     rows += put("lines", "lines", lines.ranges(random.Random(f"{seed} lines")))
     rows += put_listings(random.Random(f"{seed} listings"))
     put_replies()

@@ -1,5 +1,7 @@
 //! The driver: reads cases, asks the crate, and writes its answers in document 01's forms.
 
+#[cfg(feature = "bench")]
+mod bench;
 mod hex;
 mod lines;
 mod listings;
@@ -17,6 +19,10 @@ type Fault = String;
 /// Reads the mode from the command line and answers standard input, line by line.
 pub fn run() -> Result<(), Fault> {
     let mode = std::env::args().nth(1).unwrap_or_default();
+    #[cfg(feature = "bench")]
+    if mode == "bench" {
+        return bench::run();
+    }
     let answer: fn(&str) -> Result<String, Fault> = match mode.as_str() {
         "strings" => strings::answer,
         "trees" => trees::answer,

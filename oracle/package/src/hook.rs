@@ -10,6 +10,10 @@ thread_local! {
 
 /// Called by the crate's text, from the one line that oracle/edits.py adds to it.
 pub fn note(number: &num_bigint::BigInt) {
+    // The bench times the crate's own work only.
+    if cfg!(feature = "bench") {
+        return;
+    }
     let number = number.to_i128().expect("the reader hands over numbers of 128 bits");
     NUMBERS.with(|numbers| numbers.borrow_mut().push(number));
 }

@@ -1,0 +1,91 @@
+-- White space and comments bring no token, brackets bring theirs.
+-- Assumes nothing.
+use mathlib.Core.Path.{_≡_, refl, sym, ap, _∙_}
+use mathlib.Core.Bool.{true, false, not, false≢true}
+use mathlib.Core.List.{List, [], _∷_, _++_}
+use Prim.Native.Nat.{ℕ, suc, _+_}
+use native.Mathlib.Nat.{zero-add}
+use native.Mathlib.Omega.{arith}
+use lib.Dec.{eqb}
+use lib.ListN.{length, take, drop}
+use lib.Seq.{drop-append-add}
+use borrow.Author.Tests.{eqb-true}
+use Rattle.ground.proofs.Tests.{by-test}
+use Rattle.lexicon.specs.Class.{classOf}
+use Rattle.lexicon.specs.Span.{spanBy, inLine, lineSpan}
+use Rattle.brackets.specs.Token.{opens, closes}
+use Rattle.tokens.specs.declared.lexeme.Kind.the-variants.{Blank, Opening, Closing}
+use Rattle.tokens.specs.declared.lexeme.Lexeme.{Lexeme}
+use Rattle.tokens.specs.Lexeme.{lexeme, single, byClass, lexemeAt}
+use Rattle.tokens.specs.Piece.{pieceOf, pieceAt, more, emit, lex}
+use Rattle.tokens.proofs.Lexes.{lex-at}
+use Rattle.standard.specs.Bytes.{among, every, whiteSpaces, lineEnds}
+use Rattle.standard.specs.Limits.{lineFed}
+use Rattle.standard.proofs.Runs.{pass, every-by, span-over}
+
+-- what stands first, and what is left
+pub one-piece : (b : ℕ) (bs rest : List ℕ) (l : Lexeme) → l ≡ lexemeAt (b ∷ bs) → drop (l .width) (b ∷ bs) ≡ rest
+    → lex (b ∷ bs) ≡ emit (pieceOf (l .kind) (take (l .size) (drop (l .skip) (b ∷ bs)))) (lex rest)
+unfolding pieceAt
+one-piece b bs rest l is to =
+    lex-at (b ∷ bs) 0 l (omega arith) is
+    ∙ ap (λ (x : Lexeme). emit (pieceOf (x .kind) (take (x .size) (drop (x .skip) (b ∷ bs)))) (lex (drop (0 + l .width) (b ∷ bs)))) (sym is)
+    ∙ ap (λ (t : List ℕ). emit (pieceOf (l .kind) (take (l .size) (drop (l .skip) (b ∷ bs)))) (lex t))
+    (ap (λ (n : ℕ). drop n (b ∷ bs)) (zero-add (l .width)) ∙ to)
+
+pub at-class : (k b : ℕ) (bs : List ℕ) → classOf b ≡ k → byClass k b bs ≡ lexemeAt (b ∷ bs)
+unfolding lexemeAt
+at-class k b bs e = sym (ap (λ (c : ℕ). byClass c b bs) e)
+
+white-class : (b : ℕ) → among whiteSpaces b ≡ true → classOf b ≡ 0
+unfolding every classOf
+white-class b h = eqb-true (classOf b) 0 (pass (λ (c : ℕ). eqb (classOf c) 0) whiteSpaces b refl h)
+
+pub lex-white : (b : ℕ) (s : List ℕ) → among whiteSpaces b ≡ true → lex (b ∷ s) ≡ lex s
+lex-white b s h = one-piece b s s (single Blank) (at-class 0 b s (white-class b h)) refl
+
+pub lex-opening : (s : List ℕ) → lex (0x28 ∷ s) ≡ more opens (lex s)
+unfolding classOf
+lex-opening s = one-piece 0x28 s s (single Opening) (at-class 1 0x28 s refl) refl
+
+pub lex-closing : (s : List ℕ) → lex (0x29 ∷ s) ≡ more closes (lex s)
+unfolding classOf
+lex-closing s = one-piece 0x29 s s (single Closing) (at-class 2 0x29 s refl) refl
+
+-- a comment's bytes, and what of the rest its line still has
+line : (x s : List ℕ) → every inLine x ≡ true → lex (0x3B ∷ (x ++ s)) ≡ lex (drop (lineSpan s) s)
+unfolding classOf
+line x s h =
+    let n : suc (length x + lineSpan s) ≡ 1 + lineSpan (x ++ s) = omega (arith, span-over inLine x s h) in
+    one-piece 0x3B (x ++ s) (drop (lineSpan s) s) (lexeme Blank 0 0 (suc (length x + lineSpan s)))
+    (ap (λ (k : ℕ). lexeme Blank 0 0 k) n ∙ at-class 3 0x3B (x ++ s) refl)
+    (drop-append-add x s (lineSpan s))
+
+in-line : (b : ℕ) → not (among lineEnds b) ≡ true → inLine b ≡ true
+unfolding among inLine
+in-line b h = by-test (eqb b 0x0A) (λ e. absurd (false≢true (rw e at h))) (λ e. rw e)
+
+stops : (e : ℕ) (s : List ℕ) → eqb e 0x0A ≡ true → lineSpan (e ∷ s) ≡ 0
+unfolding spanBy inLine
+stops e s h = rw h
+
+goes : (e : ℕ) (s : List ℕ) → eqb e 0x0A ≡ false → lineSpan s ≡ 0 → lineSpan (e ∷ s) ≡ 1
+unfolding spanBy inLine
+goes e s h k = rw (h, k)
+
+fed : (e : ℕ) (s : List ℕ) → eqb e 0x0A ≡ false → lineFed e s ≡ true → lineSpan s ≡ 0
+unfolding spanBy inLine
+fed e [] h k = refl
+fed e (b ∷ bs) h k = stops b bs (rw h at k)
+
+feed : (e : ℕ) → eqb e 0x0A ≡ true → among whiteSpaces e ≡ true
+unfolding among
+feed e h = ap (among whiteSpaces) (eqb-true e 0x0A h)
+
+pub lex-comment : (x : List ℕ) (e : ℕ) (s : List ℕ) → every (λ b. not (among lineEnds b)) x ≡ true → lineFed e s ≡ true
+    → lex (0x3B ∷ (x ++ (e ∷ s))) ≡ lex s
+lex-comment x e s h k =
+    line x (e ∷ s) (every-by (λ (b : ℕ). not (among lineEnds b)) inLine in-line x h)
+    ∙ by-test (eqb e 0x0A)
+    (λ t. ap (λ (n : ℕ). lex (drop n (e ∷ s))) (stops e s t) ∙ lex-white e s (feed e t))
+    (λ t. ap (λ (n : ℕ). lex (drop n (e ∷ s))) (goes e s t (fed e s t k)))
