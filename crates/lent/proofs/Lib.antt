@@ -1,3 +1,4 @@
 pub mod Lefts
 pub mod Pieces
 pub mod Copies
+pub mod Offers

@@ -1,8 +1,8 @@
-// Texts at the front of a lent buffer.
+// Texts at the front of a lent buffer, and pieces at a place in it.
 use refusals::Refusal;
 ghost use Prim.Native.Nat.{_≤_};
 ghost use lib.ListN.{length};
-ghost use Rattle.lent.specs.Put.{Fronts};
+ghost use Rattle.lent.specs.Put.{Fronts, Offers};
 
 pub enum Written {
     Length(usize),
@@ -20,4 +20,18 @@ pub fn copy(bytes: &[u8], out: &mut [u8]) -> usize
         at += 1;
     }
     at
+}
+
+// A piece at a place, where there is room for it; answers the place after it.
+pub fn put(piece: &[u8], out: &mut [u8], at: usize) -> usize
+    ensures { λ r. ⌜ Offers (now (out .entry)) (now (out .exit)) at (now (piece .entry)) r ⌝ }
+{
+    if out.len() < at {
+        return at;
+    }
+    if out.len() - at < piece.len() {
+        return at;
+    }
+    let count = copy(piece, &mut out[at..]);
+    at + count
 }

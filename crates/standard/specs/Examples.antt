@@ -14,7 +14,7 @@ use Rattle.utf8.specs.Octets.{octets, utf8}
 use Rattle.utf8.specs.Encoding.{scalar, encoded}
 use Rattle.strings.specs.Escape.{hexRun, braced, bracedEscape, fourDigits, escape}
 use Rattle.strings.specs.Points.{characterAt, pointsAfter}
-use Rattle.strings.specs.Samples.{bytes}
+use Rattle.ground.specs.Bytes.{bytes}
 use Rattle.strings.specs.Text.{encodings, anySurrogate}
 use Rattle.strings.specs.Text as S
 use Rattle.theory.specs.Literal.{unquoted}

@@ -2,19 +2,15 @@
 use mathlib.Core.Path.{_≡_, refl}
 use mathlib.Core.Bool.{Bool, true, false}
 use mathlib.Core.List.{List, [], _∷_, map}
-use Prim.Native.Char.{Char, code}
 use Prim.Native.Nat.{ℕ}
-use Prim.Native.String.{String, [] as ends, _∷_ as next}
+use Prim.Native.String.{String}
+use Rattle.ground.specs.Bytes.{bytes}
 use Rattle.words.specs.Radix.{worth}
 use Rattle.words.specs.Run.{from}
 use Rattle.utf8.specs.Encoding.{scalar, encoded}
 use Rattle.strings.specs.Escape.{hexRun, braced, bracedEscape, fourDigits, escape}
 use Rattle.strings.specs.Points.{characterAt, pointsAfter, points}
 use Rattle.strings.specs.Text.{encodings, text, anySurrogate}
-
-abbrev pub bytes : String → List ℕ
-bytes ends = []
-bytes (next c s) = code c ∷ bytes s
 
 -- the samples, then edges of the theory's six forms and of document 01's departures
 samples : List (List ℕ)

@@ -10,7 +10,7 @@ use Rattle.words.specs.Radix.{worth}
 use Rattle.words.specs.Run.{from}
 use Rattle.strings.specs.Escape.{hexRun, braced, bracedEscape, escape}
 use Rattle.strings.specs.Points.{characterAt, pointsAfter, points}
-use Rattle.strings.specs.Samples.{bytes}
+use Rattle.ground.specs.Bytes.{bytes}
 use Rattle.theory.specs.Literal.{Literal, empty, byte, unquoted}
 use Rattle.theory.specs.Theory.{isHex, hexValue, numberBy, spelledBy, charactersBy, characters}
 use Rattle.theory.specs.Agreement.{nowhere, noSixDigits, noneWithin, noSurrogate}
