@@ -115,12 +115,22 @@ declare-datatype-feeds name parameters constructors =
     by-test (isEmpty (joined (bytes " ") parameters))
     (λ h.
     rw h
-    (omega (arith, rows-feeds constructors, command-feeds (bytes "declare-datatype" ∷ name ∷ constructorList constructors ∷ []),
-      ap feeds (empty (joined (bytes " ") parameters) h), feeds-joined (bytes " ") parameters)))
+    (omega (
+      arith,
+      rows-feeds constructors,
+      command-feeds (bytes "declare-datatype" ∷ name ∷ constructorList constructors ∷ []),
+      ap feeds (empty (joined (bytes " ") parameters) h),
+      feeds-joined (bytes " ") parameters,
+    )))
     (λ h.
     rw h
-    (omega (arith, rows-feeds constructors, list-feeds parameters, list-feeds (bytes "par" ∷ list parameters ∷ constructorList constructors ∷ []),
-      command-feeds (bytes "declare-datatype" ∷ name ∷ parametric parameters (constructorList constructors) ∷ []))))
+    (omega (
+      arith,
+      rows-feeds constructors,
+      list-feeds parameters,
+      list-feeds (bytes "par" ∷ list parameters ∷ constructorList constructors ∷ []),
+      command-feeds (bytes "declare-datatype" ∷ name ∷ parametric parameters (constructorList constructors) ∷ []),
+    )))
   where
     empty : (l : List ℕ) → isEmpty l ≡ true → l ≡ []
     empty [] e = refl

@@ -24,20 +24,26 @@ one-long head part = omega (arith, long-then head (part ++ bytes ")\n") (length 
 
 pub two-long : (head first second : List ℕ) → length head + length first + length second + 3 ≡ length (head ++ (first ++ (bytes " " ++ (second ++ bytes ")\n"))))
 two-long head first second =
-    omega (arith,
+    omega (
+      arith,
       long-then head (first ++ (bytes " " ++ (second ++ bytes ")\n"))) (length first + (1 + (length second + 2)))
-      (long-then first (bytes " " ++ (second ++ bytes ")\n")) (1 + (length second + 2))
-      (long-then (bytes " ") (second ++ bytes ")\n") (length second + 2) (long-then second (bytes ")\n") 2 refl))))
+          (long-then first (bytes " " ++ (second ++ bytes ")\n")) (1 + (length second + 2))
+          (long-then (bytes " ") (second ++ bytes ")\n") (length second + 2) (long-then second (bytes ")\n") 2 refl))),
+    )
 
 pub declare-fun-long : (name : List ℕ) (arguments : List (List ℕ)) (sort : List ℕ) (inner : ℕ) → inner ≡ length (joined (bytes " ") arguments)
     → length name + inner + length sort + 19 ≡ length (declareFun name arguments sort)
 declare-fun-long name arguments sort inner e =
     let J = joined (bytes " ") arguments in
-    omega (arith, e, sym (ap length (declare-fun-line name arguments sort)),
+    omega (
+      arith,
+      e,
+      sym (ap length (declare-fun-line name arguments sort)),
       long-then name (bytes " (" ++ (J ++ (bytes ") " ++ (sort ++ bytes ")\n")))) (2 + (length J + (2 + (length sort + 2))))
-      (long-then (bytes " (") (J ++ (bytes ") " ++ (sort ++ bytes ")\n"))) (length J + (2 + (length sort + 2)))
-      (long-then J (bytes ") " ++ (sort ++ bytes ")\n")) (2 + (length sort + 2))
-      (long-then (bytes ") ") (sort ++ bytes ")\n") (length sort + 2) (long-then sort (bytes ")\n") 2 refl)))))
+          (long-then (bytes " (") (J ++ (bytes ") " ++ (sort ++ bytes ")\n"))) (length J + (2 + (length sort + 2)))
+          (long-then J (bytes ") " ++ (sort ++ bytes ")\n")) (2 + (length sort + 2))
+          (long-then (bytes ") ") (sort ++ bytes ")\n") (length sort + 2) (long-then sort (bytes ")\n") 2 refl)))),
+    )
 
 pub define-fun-long : (name : List ℕ) (arguments : List (List ℕ)) (sort body : List ℕ) (inner : ℕ) → inner ≡ length (joined (bytes " ") (paired pair arguments))
     → length name + inner + length sort + length body + 19 ≡ length (defineFun name arguments sort body)
@@ -45,28 +51,39 @@ define-fun-long name arguments sort body inner e =
     let J = joined (bytes " ") (paired pair arguments) in
     let tail = sort ++ (bytes " " ++ (body ++ bytes ")\n")) in
     let t : length tail ≡ length sort + (1 + (length body + 2)) =
-        long-then sort (bytes " " ++ (body ++ bytes ")\n")) (1 + (length body + 2)) (long-then (bytes " ") (body ++ bytes ")\n") (length body + 2) (long-then body (bytes ")\n") 2 refl)) in
-    omega (arith, e, t, sym (ap length (define-fun-line name arguments sort body)),
+    long-then sort (bytes " " ++ (body ++ bytes ")\n")) (1 + (length body + 2)) (long-then (bytes " ") (body ++ bytes ")\n") (length body + 2) (long-then body (bytes ")\n") 2 refl)) in
+    omega (
+      arith,
+      e,
+      t,
+      sym (ap length (define-fun-line name arguments sort body)),
       long-then name (bytes " (" ++ (J ++ (bytes ") " ++ tail))) (2 + (length J + (2 + length tail)))
-      (long-then (bytes " (") (J ++ (bytes ") " ++ tail)) (length J + (2 + length tail))
-      (long-then J (bytes ") " ++ tail) (2 + length tail) (long-then (bytes ") ") tail (length tail) refl))))
+          (long-then (bytes " (") (J ++ (bytes ") " ++ tail)) (length J + (2 + length tail))
+          (long-then J (bytes ") " ++ tail) (2 + length tail) (long-then (bytes ") ") tail (length tail) refl))),
+    )
 
 bare-long : (name : List ℕ) (constructors : List (List ℕ)) → length (datatypeLine name (constructorList constructors)) ≡ length name + length (joined indent constructors) + 26
 bare-long name constructors =
     let J = joined indent constructors in
-    omega (arith, sym (ap length (bare-line name constructors)),
-      long-then name (bytes " (\n  " ++ (J ++ bytes "))\n")) (5 + (length J + 3)) (long-then (bytes " (\n  ") (J ++ bytes "))\n") (length J + 3) (long-then J (bytes "))\n") 3 refl)))
+    omega (
+      arith,
+      sym (ap length (bare-line name constructors)),
+      long-then name (bytes " (\n  " ++ (J ++ bytes "))\n")) (5 + (length J + 3)) (long-then (bytes " (\n  ") (J ++ bytes "))\n") (length J + 3) (long-then J (bytes "))\n") 3 refl)),
+    )
 
 parametric-long : (name : List ℕ) (parameters constructors : List (List ℕ))
     → length (datatypeLine name (parametric parameters (constructorList constructors))) ≡ length name + length (joined (bytes " ") parameters) + length (joined indent constructors) + 35
 parametric-long name parameters constructors =
     let P = joined (bytes " ") parameters in
     let J = joined indent constructors in
-    omega (arith, sym (ap length (parametric-line name parameters constructors)),
+    omega (
+      arith,
+      sym (ap length (parametric-line name parameters constructors)),
       long-then name (bytes " (par (" ++ (P ++ (bytes ") (\n  " ++ (J ++ bytes ")))\n")))) (7 + (length P + (6 + (length J + 4))))
-      (long-then (bytes " (par (") (P ++ (bytes ") (\n  " ++ (J ++ bytes ")))\n"))) (length P + (6 + (length J + 4)))
-      (long-then P (bytes ") (\n  " ++ (J ++ bytes ")))\n")) (6 + (length J + 4))
-      (long-then (bytes ") (\n  ") (J ++ bytes ")))\n") (length J + 4) (long-then J (bytes ")))\n") 4 refl)))))
+          (long-then (bytes " (par (") (P ++ (bytes ") (\n  " ++ (J ++ bytes ")))\n"))) (length P + (6 + (length J + 4)))
+          (long-then P (bytes ") (\n  " ++ (J ++ bytes ")))\n")) (6 + (length J + 4))
+          (long-then (bytes ") (\n  ") (J ++ bytes ")))\n") (length J + 4) (long-then J (bytes ")))\n") 4 refl)))),
+    )
 
 -- a text is empty where it has no byte
 pub is-empty : (l : List ℕ) → isEmpty l ≡ eqb (length l) 0

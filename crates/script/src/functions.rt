@@ -72,13 +72,7 @@ pub fn define_fun(
     Written::Length(need)
 }
 
-fn put_declare_fun(
-    name: &[u8],
-    string: &[u8],
-    ends: &[u64],
-    sort: &[u8],
-    out: &mut [u8],
-) -> usize
+fn put_declare_fun(name: &[u8], string: &[u8], ends: &[u64], sort: &[u8], out: &mut [u8]) -> usize
     requires { ⌜ endsRight (now string) (now ends) ≡ true ⌝ }
     ensures { λ r. ⌜ Offers (now (out .entry)) (now (out .exit)) 0 (declareFun (now (name .entry)) (parts (now (string .entry)) (now (ends .entry))) (now (sort .entry))) r ⌝ }
 {
@@ -91,13 +85,7 @@ fn put_declare_fun(
     put(b")\n", out, six)
 }
 
-pub fn declare_fun(
-    name: &[u8],
-    string: &[u8],
-    ends: &[u64],
-    sort: &[u8],
-    out: &mut [u8],
-) -> Written
+pub fn declare_fun(name: &[u8], string: &[u8], ends: &[u64], sort: &[u8], out: &mut [u8]) -> Written
     ensures { λ r. ⌜ Leaves (scripted (now (name .entry) ∷ now (string .entry) ∷ now (ends .entry) ∷ now (sort .entry) ∷ []) (endsRight (now (string .entry)) (now (ends .entry))) (declareFun (now (name .entry)) (parts (now (string .entry)) (now (ends .entry))) (now (sort .entry))) (now (out .entry))) r (now (out .exit)) ⌝ }
 {
     let one = exceeds(sort.len(), false);

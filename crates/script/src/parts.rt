@@ -38,13 +38,7 @@ fn put_trailed(
 }
 
 // All parts, the separator between two.
-pub fn put_joined(
-    separator: &[u8],
-    string: &[u8],
-    ends: &[u64],
-    out: &mut [u8],
-    at: usize,
-) -> usize
+pub fn put_joined(separator: &[u8], string: &[u8], ends: &[u64], out: &mut [u8], at: usize) -> usize
     requires { ⌜ endsRight (now string) (now ends) ≡ true ⌝ }
     ensures { λ r. ⌜ Offers (now (out .entry)) (now (out .exit)) at (joined (now (separator .entry)) (parts (now (string .entry)) (now (ends .entry)))) r ⌝ }
 {

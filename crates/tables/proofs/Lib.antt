@@ -1,0 +1,17 @@
+pub mod Ranges
+pub mod Words
+pub mod Answers
+pub mod Keeps
+pub mod Places
+pub mod Searches
+pub mod Finds
+pub mod Sorts
+pub mod Rights
+pub mod Alones
+pub mod ByKind
+pub mod Tabled
+pub mod Passes
+pub mod Rows
+pub mod Lawful
+pub mod Only
+pub mod One

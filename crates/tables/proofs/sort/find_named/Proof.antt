@@ -1,0 +1,55 @@
+use mathlib.Core.Path.{_≡_, refl, sym, _∙_}
+use native.Mathlib.Omega.{arith}
+use Prim.Native.Nat.{_-_}
+use Rattle.tables.specs.Layout.{count}
+use Rattle.tables.specs.View.{isNamed}
+use Rattle.tables.specs.Search.{firstRow}
+use Rattle.tables.proofs.Searches.{first-here, first-later, first-none}
+use borrow.Author.Needs.{needs}
+use Rattle.tables.proofs.sort.find_named.Statement.{statement}
+use Rattle.tables.proofs.sort.find_named.Tie as tie
+
+abbrev Inv-loop : tie.InvT-loop
+Inv-loop sorts names name from rows-there i₀ i = (rows-there ≡ count sorts) × (firstRow (isNamed sorts names name) from (count sorts - from) ≡ firstRow (isNamed sorts names name) i (count sorts - i))
+
+abbrev μ-loop : tie.MeasureT-loop
+μ-loop sorts names name from rows-there i₀ i = rows-there - i
+
+count-requires : tie.Need-count-requires Inv-loop μ-loop
+count-requires c κs = search needs
+
+loop-holds : tie.Need-loop-holds Inv-loop μ-loop
+loop-holds c = (c .count .ensures, refl)
+
+is-named-sort-requires : tie.Need-is-named-sort-requires Inv-loop μ-loop
+is-named-sort-requires c κs = search needs
+
+returns : tie.Need-returns Inv-loop μ-loop
+returns c = let h = c .before .before .before .loop .inv in sym (h .1 ∙ first-here _ _ _ (omega (arith, h .0)) (sym (c .before .is-named-sort .ensures) ∙ c .if1 .taken))
+
+add-i : tie.Need-add-i Inv-loop μ-loop
+add-i c = search needs
+
+loop-less : tie.Need-loop-less Inv-loop μ-loop
+loop-less c = search needs
+
+loop-again : tie.Need-loop-again Inv-loop μ-loop
+loop-again c = let h = c .before .before .before .loop .inv in (h .0, h .1 ∙ first-later _ _ _ (omega (arith, h .0)) (sym (c .before .is-named-sort .ensures) ∙ c .if1 .left))
+
+returns-2 : tie.Need-returns-2 Inv-loop μ-loop
+returns-2 c = let h = c .before .loop .inv in sym (h .1 ∙ first-none _ _ _ (omega (arith, h .0)))
+
+pub find-named-spec : {M : Type 1} → statement M
+find-named-spec =
+    tie.close
+    (tie.spec
+    Inv-loop
+    μ-loop
+    count-requires
+    loop-holds
+    is-named-sort-requires
+    returns
+    add-i
+    loop-less
+    loop-again
+    returns-2)

@@ -1,0 +1,12 @@
+pub mod Sort
+pub mod Layout
+pub mod Range
+pub mod Kept
+pub mod Rules
+pub mod Find
+pub mod Search
+pub mod View
+pub mod Lookup
+pub mod Right
+pub mod Check
+pub mod Examples
