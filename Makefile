@@ -1,9 +1,25 @@
 # What people type. Each target says what it needs.
-.PHONY: test oracle vectors confirm compare bench
+.PHONY: test library example bindings oracle vectors confirm compare bench
 
 # Proves every crate, tries every must-fail edit, runs every program: the gate. Needs the Rattle toolchain.
 test:
 	bash .ci/run
+
+# What C and Rust link, target/staticlib/libstazzumpi.a, for x86-64. Needs the toolchain.
+library:
+	rt staticlib stazzumpi
+
+# Builds the example in C and shows it on two real replies. Needs the toolchain and a C compiler, on x86-64.
+CFLAGS ?= -O2
+example: library
+	mkdir -p target/example
+	$(CC) -std=c99 $(CFLAGS) -Wall -Wextra -Werror -pedantic -Iinclude examples/c/readtree.c target/staticlib/libstazzumpi.a -o target/example/readtree
+	target/example/readtree vectors/replies/bools/cvc5-1.0.3.model.txt
+	target/example/readtree vectors/replies/option-single/z3-4.8.12.model.txt
+
+# Tests the Rust binding over the library. Needs the toolchain and cargo, on x86-64.
+bindings: library
+	cd bindings/rust && STAZZUMPI_LIB_DIR="$(abspath target/staticlib)" cargo test --offline --target-dir "$(abspath target/bindings)"
 
 # Builds the Rust from docs/src, to be the judge. Needs what oracle/README.md installs.
 oracle:
@@ -17,14 +33,18 @@ vectors: oracle
 confirm: oracle
 	python3 oracle/confirm.py
 
-# Sets the Rust's answers beside a second reading of document 01; SEED and COUNT may be given.
+# Sets our library beside the Rust, in one process, on millions of inputs, and the Rust's answers beside a second reading of
+# document 01. SEED may be given; TIMES, for so many times the inputs; COUNT, for so many models. On x86-64.
 SEED ?= 2026
+TIMES ?= 1
 COUNT ?= 20000
-compare: oracle
+STACK := 4294967296
+compare: oracle library
+	$(MAKE) -C oracle ours
+	find vectors/replies -name '*.model.txt' | sort | target/oracle/ours/release/oracle compare $(STACK) $(SEED) $(TIMES)
 	python3 oracle/compare.py $(SEED) $(COUNT)
 
 # Times our reader beside the crate's on the real replies, in one run. Needs the toolchain and the oracle's packages, on x86-64.
-bench:
-	rt staticlib reader_c
+bench: library
 	$(MAKE) -C oracle bench
 	find vectors/replies -name '*.model.txt' | sort | target/oracle/bench/release/oracle bench

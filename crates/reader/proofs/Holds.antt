@@ -16,6 +16,7 @@ use Rattle.brackets.specs.Walk.{Walk, going, done, fault, walk, step, Outcome, 
 use Rattle.brackets.proofs.Agree.{Agrees, agree-step}
 use Rattle.brackets.proofs.Upto.{Upto, upto}
 use Rattle.brackets.proofs.Next.{Laid, Room, fine-open, fine-close, fine-leaf, room-text, laid-on, Kept, kept-none, kept-on}
+use Rattle.tokens.specs.Past.{Past}
 use Rattle.tokens.specs.declared.lexeme.Lexeme.{Lexeme}
 use Rattle.tokens.specs.Lexeme.{lexemeAt}
 use Rattle.tokens.specs.Piece.{Piece, space, token, wrong, pieceOf, pieceAt, Lexed, ok, bad, emit, lex}
@@ -24,7 +25,7 @@ use Rattle.reader.specs.declared.tally.Tally.the-variants.{Scanned}
 use Rattle.reader.specs.Tally.{turned, Ample}
 use Rattle.reader.specs.Read.{outcome, parse, inputLimit}
 use Rattle.reader.specs.Write.{Fine, pieceN, pieceT, pieceS, pieceC, Pieced, Ready, Wrote}
-use Rattle.reader.proofs.Sofar.{Sofar, sofar-start, sofar-step, ample}
+use Rattle.reader.proofs.Sofar.{Sofar, sofar-start, sofar-step, ample, sofar-past}
 
 -- the walk after a piece
 abbrev next : Walk → Piece → Walk
@@ -200,6 +201,22 @@ module _ (s N₀ T₀ S₀ : List ℕ) (c : Scan) (at : ℕ) (N T S : List ℕ) 
           longS = k .longS ∙ k₀ .longS;
         };
       }))))
+
+-- white space changes nothing
+pub holds-past : (s N₀ T₀ S₀ : List ℕ) (c : Scan) (at next : ℕ) (N T S : List ℕ) → Holds s N₀ T₀ S₀ c at N T S → Past s at next → Holds s N₀ T₀ S₀ c next N T S
+holds-past s N₀ T₀ S₀ c at next N T S h p = record {
+  t = h .t;
+  w = h .w;
+  ts = h .ts;
+  sofar = sofar-past s at next c (h .sofar) p;
+  agrees = h .agrees;
+  whole = h .whole;
+  lexed = p .same ∙ h .lexed;
+  rest = h .rest;
+  room = h .room;
+  laid = h .laid;
+  kept = h .kept;
+}
 
 laid-done : (w : Walk) (t : Tree) (N T S : List ℕ) → w ≡ done t → Laid w N T S → (take (nodes t * stride) N ≡ words t 0 0) × (take (length (text t)) T ≡ text t)
 laid-done w t N T S e l = let q = rw e at l in (q .0, q .1)

@@ -21,6 +21,7 @@ use Rattle.tokens.specs.declared.atom.Sized.the-variants.{Text}
 use Rattle.tokens.specs.declared.lexeme.Lexeme.{Lexeme}
 use Rattle.tokens.specs.Lexeme.{lexemeAt}
 use Rattle.tokens.specs.Piece.{Piece, space, token, wrong, pieceOf, pieceAt, sizedOf, Lexed, ok, bad, emit, lex}
+use Rattle.tokens.specs.Past.{Past}
 use Rattle.tokens.proofs.Lexes.{lex-nil, found-some, found-within, found-there, found-piece, lex-at, textSize, size-small, bytes-part}
 use Rattle.reader.specs.declared.tally.Tally.{Tally}
 use Rattle.reader.specs.declared.tally.Tally.the-variants.{Scanned, Fault}
@@ -93,6 +94,16 @@ sofar-start s = record { within = omega arith; depth = omega arith; nodes = omeg
 -- at the end nothing is left to count
 pub sofar-end : (s : List ℕ) (at : ℕ) (c : Scan) → Sofar s at c → length s ≤ at → Scanned c ≡ tallied start (lex s)
 sofar-end s at c h k = ap (tallied c) (sym (ap lex (drop-of-length-le s k) ∙ lex-nil)) ∙ h .rest
+
+-- white space changes nothing
+pub sofar-past : (s : List ℕ) (at next : ℕ) (c : Scan) → Sofar s at c → Past s at next → Sofar s next c
+sofar-past s at next c h p = record {
+  within = p .within;
+  depth = omega (arith, h .depth, p .onward);
+  nodes = omega (arith, h .nodes, p .onward);
+  text = omega (arith, h .text, p .onward);
+  rest = ap (tallied c) (p .same) ∙ h .rest;
+}
 
 -- one lexeme more, its content cut out as the code does
 module _ (s : List ℕ) (at : ℕ) (c : Scan) (l : Lexeme) (h : Sofar s at c) (bytes : Bytes s) (less : at < length s) (is : l ≡ lexemeAt (drop at s)) where

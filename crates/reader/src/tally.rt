@@ -60,7 +60,7 @@ pub fn count_tokens(table: &[u8; 256], s: &[u8]) -> Tally
             return next;
         };
         scan = after;
-        at = at + found.width;
+        at = tokens::past_blanks(table, s, at + found.width);
     }
     Tally::Scanned(scan)
 }

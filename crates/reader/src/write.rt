@@ -166,6 +166,6 @@ pub fn write_tokens(
         let end = from + found.size;
         let kind = found.kind;
         scan = write_piece(scan, kind, &s[from..end], nodes, text, stack);
-        at = at + found.width;
+        at = tokens::past_blanks(table, s, at + found.width);
     }
 }

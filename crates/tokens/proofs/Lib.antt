@@ -4,3 +4,4 @@ pub mod Lexemes
 pub mod Sizes
 pub mod Reaches
 pub mod Lexes
+pub mod Pasts

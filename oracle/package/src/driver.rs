@@ -2,10 +2,18 @@
 
 #[cfg(feature = "bench")]
 mod bench;
+#[cfg(feature = "ours")]
+mod compare;
 mod hex;
+#[cfg(feature = "ours")]
+mod inputs;
+#[cfg(feature = "ours")]
+mod lent;
 mod lines;
 mod listings;
 mod numbers;
+#[cfg(feature = "ours")]
+mod ours;
 mod strings;
 mod tables;
 mod trees;
@@ -22,6 +30,10 @@ pub fn run() -> Result<(), Fault> {
     #[cfg(feature = "bench")]
     if mode == "bench" {
         return bench::run();
+    }
+    #[cfg(feature = "ours")]
+    if mode == "compare" {
+        return compare::run();
     }
     let answer: fn(&str) -> Result<String, Fault> = match mode.as_str() {
         "strings" => strings::answer,

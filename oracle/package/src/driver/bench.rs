@@ -9,14 +9,15 @@ use std::time::{Duration, Instant};
 extern "C" {
     /// A slice is passed as two words, its address and its length.
     #[allow(improper_ctypes)]
-    fn stazzumpi_parse_sexpr(input: &[u8], nodes: &mut [u64], text: &mut [u8], stack: &mut [u64]) -> u64;
+    fn stazzumpi_parse_sexpr(input: &[u8], nodes: &mut [u64], text: &mut [u8], stack: &mut [u64], told: &mut [u64]) -> u64;
 }
 
-/// What is lent: as many nodes and twice as many text bytes as a reply can take, and a deep stack.
+/// What is lent: as many nodes and twice as many text bytes as a reply can take, a deep stack, and a place for three numbers.
 struct Lent {
     nodes: Vec<u64>,
     text: Vec<u8>,
     stack: Vec<u64>,
+    told: [u64; 3],
 }
 
 const ROUNDS: usize = 9;
@@ -30,14 +31,14 @@ pub fn run() -> Result<(), Fault> {
     }
     replies.retain(|reply| parse_sexpr(reply).is_ok());
     let longest = replies.iter().map(Vec::len).max().ok_or("no reply that the crate reads")?;
-    let mut lent = Lent { nodes: vec![7; longest * 4], text: vec![7; longest * 2], stack: vec![7; 4096] };
+    let mut lent = Lent { nodes: vec![7; longest * 4], text: vec![7; longest * 2], stack: vec![7; 4096], told: [0; 3] };
     let bytes: usize = replies.iter().map(Vec::len).sum();
     let turns = (50_000_000 / bytes).max(1);
     let (mut theirs, mut ours) = (Vec::new(), Vec::new());
     for _ in 0..ROUNDS {
         theirs.push(timed(turns, &replies, |reply| parse_sexpr(reply).is_ok()));
         ours.push(timed(turns, &replies, |reply| {
-            0 < unsafe { stazzumpi_parse_sexpr(reply, &mut lent.nodes, &mut lent.text, &mut lent.stack) }
+            0 == unsafe { stazzumpi_parse_sexpr(reply, &mut lent.nodes, &mut lent.text, &mut lent.stack, &mut lent.told) }
         }));
     }
     let rate = |times: &mut Vec<Duration>| {

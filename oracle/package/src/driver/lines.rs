@@ -92,3 +92,30 @@ impl Parts<'_> {
 fn read(field: &str) -> Result<String, Fault> {
     String::from_utf8(hex::read(field)?).map_err(|_| "not UTF-8".into())
 }
+
+/// The bytes that the crate writes.
+#[cfg(feature = "ours")]
+pub fn written(line: &super::ours::Line) -> Result<Vec<u8>, String> {
+    use super::ours::Line;
+    let mut out = Vec::new();
+    ask(|| match line {
+        Line::SetLogic(logic) => wait(out.set_logic(logic)),
+        Line::SetOption(option, value) => wait(out.set_option(option, value)),
+        Line::Comment(text) => wait(out.comment(text)),
+        Line::Assert(term) => wait(out.assert(term)),
+        Line::DefineFun(name, pairs, sort, body) => {
+            let pairs = pairs.chunks(2).map(|pair| (pair[0].as_str(), pair[1].as_str()));
+            wait(out.define_fun(name, pairs, sort, body));
+        }
+        Line::DeclareConst(name, sort) => wait(out.declare_const(name, sort)),
+        Line::DeclareFun(name, sorts, sort) => wait(out.declare_fun(name, sorts.iter().map(String::as_str), sort)),
+        Line::DeclareDatatype(name, parameters, constructors) => {
+            wait(out.declare_datatype(name, parameters.iter().map(String::as_str), constructors.iter().map(String::as_str)));
+        }
+        Line::CheckSat => wait(out.check_sat()),
+        Line::GetModel => wait(out.get_model()),
+        Line::Reset => wait(out.reset()),
+        Line::Exit => wait(out.exit()),
+    })?;
+    Ok(out)
+}

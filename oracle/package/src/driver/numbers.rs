@@ -4,7 +4,11 @@ use crate::symcc::decoder::sexpr::SExprParseError;
 use crate::symcc::decoder::DecodeError;
 
 pub fn of_reading(error: &SExprParseError) -> String {
-    let number = match error {
+    refused(number_of_reading(error))
+}
+
+pub fn number_of_reading(error: &SExprParseError) -> u8 {
+    match error {
         SExprParseError::UnexpectedEnd => 1,
         SExprParseError::Utf8Error(_) => 2,
         SExprParseError::StringParseError(_) => 3,
@@ -13,8 +17,7 @@ pub fn of_reading(error: &SExprParseError) -> String {
         SExprParseError::TrailingTokens => 6,
         SExprParseError::IntegerOverflow => 7,
         SExprParseError::ZeroWidthBitVec => 8,
-    };
-    refused(number)
+    }
 }
 
 /// Three errors of the crate have no number in document 01, for a model never brings them about: they show as they are.

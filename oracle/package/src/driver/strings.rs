@@ -13,3 +13,10 @@ pub fn answer(line: &str) -> Result<String, Fault> {
         Err(panic) => panic,
     })
 }
+
+/// The text, or the refusal's number.
+#[cfg(feature = "ours")]
+pub fn decoded(bytes: &[u8]) -> Result<Result<Vec<u8>, u64>, String> {
+    let answer = ask(|| decode_string(bytes))?;
+    Ok(answer.map(|text| text.as_bytes().to_vec()).ok_or(3))
+}

@@ -12,10 +12,10 @@ const APP: u64 = 5;
 
 /// The arena while it is filled: nodes in the order their tokens begin, the text, and the depth met so far.
 #[derive(Default)]
-struct Arena {
-    nodes: Vec<[u64; 4]>,
-    text: Vec<u8>,
-    depth: usize,
+pub struct Arena {
+    pub nodes: Vec<[u64; 4]>,
+    pub text: Vec<u8>,
+    pub depth: usize,
 }
 
 pub fn answer(line: &str) -> Result<String, Fault> {
@@ -27,6 +27,18 @@ pub fn answer(line: &str) -> Result<String, Fault> {
         Ok(Ok(tree)) => written(&filled(&tree, numbers)),
         Ok(Err(error)) => numbers::of_reading(&error),
         Err(panic) => panic,
+    })
+}
+
+/// The crate's tree as an arena, or its refusal's number.
+#[cfg(feature = "ours")]
+pub fn arena(bytes: &[u8]) -> Result<Result<Arena, u64>, String> {
+    hook::take();
+    let result = ask(|| parse_sexpr(bytes));
+    let numbers = hook::take();
+    result.map(|answer| match answer {
+        Ok(tree) => Ok(filled(&tree, numbers)),
+        Err(error) => Err(numbers::number_of_reading(&error).into()),
     })
 }
 

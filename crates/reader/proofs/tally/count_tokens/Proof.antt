@@ -4,13 +4,14 @@ use Prim.Native.Nat.{ℕ, _+_, _-_, _≤_, _<_}
 use native.Mathlib.Omega.{arith}
 use lib.ListN.{length}
 use Rattle.tokens.proofs.Lexes.{found-some, found-within, found-there, bytes-of}
-use Rattle.reader.proofs.Sofar.{Sofar, sofar-start, sofar-step, sofar-fault, sofar-end, ample}
+use Rattle.reader.proofs.Sofar.{Sofar, sofar-past, sofar-start, sofar-step, sofar-fault, sofar-end, ample}
 use Rattle.reader.proofs.tally.count_tokens.Statement.{statement}
 use Rattle.reader.proofs.tally.count_tokens.Tie as tie
 use Rattle.reader.proofs.tally.count_tokens.Reads as reads
 use Rattle.reader.proofs.tally.count_tokens.Lts as lts
 use Rattle.brackets.proofs.scan.Scan.begin.Reads as begin-reads
 use Rattle.reader.proofs.tally.turn.Reads as turn-reads
+use Rattle.tokens.proofs.past_blanks.Reads as past-blanks-reads
 use Rattle.tokens.proofs.lexeme_at.Reads as lexeme-at-reads
 
 abbrev Inv-loop : tie.InvT-loop
@@ -67,17 +68,21 @@ enum-told c = search needs
 returns : tie.Need-returns Inv-loop μ-loop
 returns c = sofar-fault (c .before .before .before .before .before .before .before .before .before .before .before .args .s .now) (c .before .before .before .before .before .before .before .before .loop .at) (c .before .before .before .before .before .before .before .before .loop .scan) (c .before .before .before .before .before .before .lexeme-at .result) (c .before .before .before .before .before .before .before .before .loop .inv) (bytes-of (c .before .before .before .before .before .before .before .before .before .before .before .args .s .now) (λ i. c .before .before .before .before .before .before .before .before .before .before .shared-slice-known .given i .fits)) (c .before .before .before .before .before .before .before .loop-test .taken) (c .before .before .before .before .before .before .lexeme-at .ensures) (c .before .before .turn .result) _ (c .enum-told .given .1) (c .before .before .turn .ensures)
 
--- src/tally.rt:63:14
-add-at : tie.Need-add-at Inv-loop μ-loop
-add-at c = omega (arith, c .before .before .before .before .before .before .before .before .before .before .before .before .before .pre .1, found-there (c .before .before .before .before .before .before .before .before .before .before .before .before .before .args .s .now) (c .before .before .before .before .before .before .before .before .before .before .loop .at) _ (c .before .before .before .before .before .before .before .before .before .loop-test .taken) (c .before .before .before .before .before .before .before .before .lexeme-at .ensures))
+-- src/tally.rt:63:44
+add-past-blanks : tie.Need-add-past-blanks Inv-loop μ-loop
+add-past-blanks c = omega (arith, c .before .before .before .before .before .before .before .before .before .before .before .before .before .pre .1, found-there (c .before .before .before .before .before .before .before .before .before .before .before .before .before .args .s .now) (c .before .before .before .before .before .before .before .before .before .before .loop .at) _ (c .before .before .before .before .before .before .before .before .before .loop-test .taken) (c .before .before .before .before .before .before .before .before .lexeme-at .ensures))
+
+-- src/tally.rt:63:9
+past-blanks-requires : tie.Need-past-blanks-requires Inv-loop μ-loop
+past-blanks-requires c κs = (c .before .before .before .before .before .before .before .before .before .before .before .before .before .pre .0, found-there (c .before .before .before .before .before .before .before .before .before .before .before .before .before .args .s .now) (c .before .before .before .before .before .before .before .before .before .before .loop .at) _ (c .before .before .before .before .before .before .before .before .before .loop-test .taken) (c .before .before .before .before .before .before .before .before .lexeme-at .ensures))
 
 -- src/tally.rt:53:5
 loop-less : tie.Need-loop-less Inv-loop μ-loop
-loop-less c = omega (arith, c .before .before .before .before .before .before .before .before .before .loop-test .taken, found-some (c .before .before .before .before .before .before .before .before .before .before .before .before .before .args .s .now) (c .before .before .before .before .before .before .before .before .before .before .loop .at) _ (c .before .before .before .before .before .before .before .before .before .loop-test .taken) (c .before .before .before .before .before .before .before .before .lexeme-at .ensures), found-there (c .before .before .before .before .before .before .before .before .before .before .before .before .before .args .s .now) (c .before .before .before .before .before .before .before .before .before .before .loop .at) _ (c .before .before .before .before .before .before .before .before .before .loop-test .taken) (c .before .before .before .before .before .before .before .before .lexeme-at .ensures))
+loop-less c = omega (arith, c .past-blanks .ensures .onward, c .before .before .before .before .before .before .before .before .before .before .loop-test .taken, found-some (c .before .before .before .before .before .before .before .before .before .before .before .before .before .before .args .s .now) (c .before .before .before .before .before .before .before .before .before .before .before .loop .at) _ (c .before .before .before .before .before .before .before .before .before .before .loop-test .taken) (c .before .before .before .before .before .before .before .before .before .lexeme-at .ensures), found-there (c .before .before .before .before .before .before .before .before .before .before .before .before .before .before .args .s .now) (c .before .before .before .before .before .before .before .before .before .before .before .loop .at) _ (c .before .before .before .before .before .before .before .before .before .before .loop-test .taken) (c .before .before .before .before .before .before .before .before .before .lexeme-at .ensures))
 
 -- src/tally.rt:53:5
 loop-again : tie.Need-loop-again Inv-loop μ-loop
-loop-again c = sofar-step (c .before .before .before .before .before .before .before .before .before .before .before .before .before .args .s .now) (c .before .before .before .before .before .before .before .before .before .before .loop .at) (c .before .before .before .before .before .before .before .before .before .before .loop .scan) (c .before .before .before .before .before .before .before .before .lexeme-at .result) (c .before .before .before .before .before .before .before .before .before .before .loop .inv) (bytes-of (c .before .before .before .before .before .before .before .before .before .before .before .before .before .args .s .now) (λ i. c .before .before .before .before .before .before .before .before .before .before .before .before .shared-slice-known .given i .fits)) (c .before .before .before .before .before .before .before .before .before .loop-test .taken) (c .before .before .before .before .before .before .before .before .lexeme-at .ensures) _ (sym (c .before .before .next .given .1) ∙ c .before .before .before .before .turn .ensures)
+loop-again c = sofar-past _ _ _ _ (sofar-step (c .before .before .before .before .before .before .before .before .before .before .before .before .before .before .args .s .now) (c .before .before .before .before .before .before .before .before .before .before .before .loop .at) (c .before .before .before .before .before .before .before .before .before .before .before .loop .scan) (c .before .before .before .before .before .before .before .before .before .lexeme-at .result) (c .before .before .before .before .before .before .before .before .before .before .before .loop .inv) (bytes-of (c .before .before .before .before .before .before .before .before .before .before .before .before .before .before .args .s .now) (λ i. c .before .before .before .before .before .before .before .before .before .before .before .before .before .shared-slice-known .given i .fits)) (c .before .before .before .before .before .before .before .before .before .before .loop-test .taken) (c .before .before .before .before .before .before .before .before .before .lexeme-at .ensures) _ (sym (c .before .before .before .next .given .1) ∙ c .before .before .before .before .before .turn .ensures)) (c .past-blanks .ensures)
 
 -- src/tally.rt:47:1
 returns-2 : tie.Need-returns-2 Inv-loop μ-loop
@@ -101,7 +106,8 @@ count-tokens-spec =
     enum-known-next
     enum-told
     returns
-    add-at
+    add-past-blanks
+    past-blanks-requires
     loop-less
     loop-again
     returns-2)

@@ -1,0 +1,4 @@
+pub mod Codes
+pub mod Results
+pub mod Needs
+pub mod LineNeeds

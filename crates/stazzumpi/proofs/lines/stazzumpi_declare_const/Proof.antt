@@ -1,0 +1,49 @@
+use Rattle.stazzumpi.proofs.Results.{exports-short, exports-written}
+use borrow.Author.Needs.{needs}
+use Rattle.stazzumpi.proofs.lines.stazzumpi_declare_const.Statement.{statement}
+use Rattle.stazzumpi.proofs.lines.stazzumpi_declare_const.Tie as tie
+use Rattle.stazzumpi.proofs.lines.stazzumpi_declare_const.Reads as reads
+use Rattle.stazzumpi.proofs.lines.stazzumpi_declare_const.Lts as lts
+use Rattle.script.proofs.declare_const.Reads as declare-const-reads
+use Rattle.stazzumpi.proofs.answer.code.Reads as code-reads
+use Rattle.stazzumpi.proofs.answer.tell_written.Reads as tell-written-reads
+
+-- src/lines.rt:74:9
+code-requires : tie.Need-code-requires
+code-requires c κs = search needs
+
+-- src/lines.rt:74:9
+returns : tie.Need-returns
+returns c = exports-short _ _ _ _ _ (c .before .if1 .taken) (c .code .ensures)
+
+-- src/lines.rt:76:9
+declare-const-requires : tie.Need-declare-const-requires
+declare-const-requires c κs = search needs
+
+-- src/lines.rt:77:5
+tell-written-requires : tie.Need-tell-written-requires
+tell-written-requires c κs = search needs
+
+-- src/lines.rt:64:1
+same-length : tie.Need-same-length
+same-length c = search needs
+
+-- src/lines.rt:64:1
+same-length-2 : tie.Need-same-length-2
+same-length-2 c = search needs
+
+-- src/lines.rt:64:1
+returns-2 : tie.Need-returns-2
+returns-2 c = exports-written _ _ _ (c .before .before .before .before .before .before .before .before .if1 .left) (c .before .before .before .before .before .before .declare-const .ensures) (c .before .before .tell-written .ensures)
+
+pub stazzumpi-declare-const-spec : {M : Type 1} → statement M
+stazzumpi-declare-const-spec =
+    tie.close
+    (tie.spec
+    code-requires
+    returns
+    declare-const-requires
+    tell-written-requires
+    same-length
+    same-length-2
+    returns-2)

@@ -1,0 +1,49 @@
+use Rattle.stazzumpi.proofs.Results.{exports-short, exports-written}
+use borrow.Author.Needs.{needs}
+use Rattle.stazzumpi.proofs.lines.stazzumpi_get_model.Statement.{statement}
+use Rattle.stazzumpi.proofs.lines.stazzumpi_get_model.Tie as tie
+use Rattle.stazzumpi.proofs.lines.stazzumpi_get_model.Reads as reads
+use Rattle.stazzumpi.proofs.lines.stazzumpi_get_model.Lts as lts
+use Rattle.script.proofs.get_model.Reads as get-model-reads
+use Rattle.stazzumpi.proofs.answer.code.Reads as code-reads
+use Rattle.stazzumpi.proofs.answer.tell_written.Reads as tell-written-reads
+
+-- src/lines.rt:96:9
+code-requires : tie.Need-code-requires
+code-requires c κs = search needs
+
+-- src/lines.rt:96:9
+returns : tie.Need-returns
+returns c = exports-short _ _ _ _ _ (c .before .if1 .taken) (c .code .ensures)
+
+-- src/lines.rt:98:9
+get-model-requires : tie.Need-get-model-requires
+get-model-requires c κs = search needs
+
+-- src/lines.rt:99:5
+tell-written-requires : tie.Need-tell-written-requires
+tell-written-requires c κs = search needs
+
+-- src/lines.rt:91:1
+same-length : tie.Need-same-length
+same-length c = search needs
+
+-- src/lines.rt:91:1
+same-length-2 : tie.Need-same-length-2
+same-length-2 c = search needs
+
+-- src/lines.rt:91:1
+returns-2 : tie.Need-returns-2
+returns-2 c = exports-written _ _ _ (c .before .before .before .before .before .before .before .before .if1 .left) (c .before .before .before .before .before .before .get-model .ensures) (c .before .before .tell-written .ensures)
+
+pub stazzumpi-get-model-spec : {M : Type 1} → statement M
+stazzumpi-get-model-spec =
+    tie.close
+    (tie.spec
+    code-requires
+    returns
+    get-model-requires
+    tell-written-requires
+    same-length
+    same-length-2
+    returns-2)

@@ -1,0 +1,164 @@
+/* Stazzumpi: reading what an SMT solver answered, with proof.
+ *
+ * Link with libstazzumpi.a, which `rt staticlib stazzumpi` writes for x86-64 Linux. It takes no memory of its own, keeps nothing
+ * between calls, and may be called from several threads, each with its own buffers.
+ *
+ * Every call answers one 64-bit number: 0 where it accepts, else a refusal, whose number is STAZZUMPI_NUMBER(r) and whose detail is
+ * STAZZUMPI_DETAIL(r): the exact need for 10, 11, 12 and 26, else 0. A caller may look at the need, lend that much, and call again.
+ *
+ * What an acceptance yields is put at the front of `told`; later words of `told` stay as they were. Each call says how many words
+ * that takes (a call that yields nothing has no `told`); a shorter `told` is refused by 26 with that many as its detail, before
+ * anything else is looked at. A refusal changes nothing that was lent. What else a buffer holds after an acceptance stands at each
+ * call; every byte not named stays as it was.
+ *
+ * What the caller owes:
+ *   - each pointer is valid for as many elements as the length after it says, and stays so during the call;
+ *   - pointers to uint64_t are aligned as that type is;
+ *   - no pointer is NULL, not even where its length is 0;
+ *   - a buffer that may be written (a pointer that is not const) overlaps no other memory of the same call, and nothing else uses
+ *     it during the call.
+ * Nothing else is asked: all bytes, words and lengths are answered.
+ */
+#ifndef STAZZUMPI_H
+#define STAZZUMPI_H
+
+#include <stddef.h>
+#include <stdint.h>
+
+#ifdef __cplusplus
+extern "C" {
+#endif
+
+/* The refusals of document 01. */
+enum stazzumpi_refusal {
+    STAZZUMPI_UnexpectedEnd = 1,
+    STAZZUMPI_Utf8Error = 2,
+    STAZZUMPI_StringParseError = 3,
+    STAZZUMPI_ParseIntError = 4,
+    STAZZUMPI_UnclosedSExpr = 5,
+    STAZZUMPI_TrailingTokens = 6,
+    STAZZUMPI_IntegerOverflow = 7,
+    STAZZUMPI_ZeroWidthBitVec = 8,
+    STAZZUMPI_InputTooLong = 9,
+    STAZZUMPI_NodeRoom = 10,  /* detail: how many nodes */
+    STAZZUMPI_TextRoom = 11,  /* detail: how many bytes of text */
+    STAZZUMPI_DepthRoom = 12, /* detail: how many entries of the stack */
+    STAZZUMPI_UnexpectedModel = 13,
+    STAZZUMPI_UnknownType = 14,
+    STAZZUMPI_UnknownLiteral = 15,
+    STAZZUMPI_UnmatchedType = 16,
+    STAZZUMPI_UnmatchedFieldType = 17,
+    STAZZUMPI_UnmatchedRecordType = 18,
+    STAZZUMPI_InvalidOptionType = 19,
+    STAZZUMPI_InvalidSetType = 20,
+    STAZZUMPI_UnexpectedForm = 21,
+    STAZZUMPI_NotCovered = 22,
+    STAZZUMPI_NoSortRow = 23,
+    STAZZUMPI_TooNested = 24,
+    STAZZUMPI_BadTable = 25,
+    STAZZUMPI_OutRoom = 26,   /* detail: how many bytes of output, or words of `told` */
+    STAZZUMPI_BadArena = 27,
+    STAZZUMPI_SetUnionNonLiterals = 28
+};
+
+/* The refusal's number, 1 to 28, or 0; and its detail. */
+#define STAZZUMPI_NUMBER(r) ((int)((uint64_t)(r) & 255))
+#define STAZZUMPI_DETAIL(r) ((uint64_t)(r) >> 8)
+
+/* The words of a node in the arena that stazzumpi_parse_sexpr writes: word 0 is the kind, words 1 to 3 by the kind.
+ *   BitVec   width, low word, high word of its number, sign-extended to 128 bits
+ *   Numeral  0, low word, high word
+ *   String   length, text offset, 0
+ *   Symbol   length, text offset, 0
+ *   App      children, the node after its last descendant, 0
+ * Nodes stand in the order their tokens begin; the first child of the node i is the node i + 1. */
+#define STAZZUMPI_NODE_WORDS 4
+enum stazzumpi_kind {
+    STAZZUMPI_BitVec = 1,
+    STAZZUMPI_Numeral = 2,
+    STAZZUMPI_String = 3,
+    STAZZUMPI_Symbol = 4,
+    STAZZUMPI_App = 5
+};
+
+/* The text of what stands between the quotes of a string literal, at the front of `out`.
+ * Tells 1 word: the length of the text. Refusals: 26 (told), 9, 3, 11. */
+uint64_t stazzumpi_decode_string(const uint8_t *s, size_t s_length, uint8_t *out, size_t out_length, uint64_t *told,
+                                 size_t told_length);
+
+/* The tree of one S-expression: its nodes and its text at the front of `nodes` and `text`. As many first entries of `stack` are
+ * zeroed as the tree has open brackets. All lengths count elements; four words of `nodes` are a node.
+ * An input of n bytes needs at most n nodes, 2 n bytes of text and n entries of the stack.
+ * Tells 3 words: nodes, text bytes, open brackets. Refusals: 26 (told), 9, 1 to 6 by the input, 10, 11, 12. */
+uint64_t stazzumpi_parse_sexpr(const uint8_t *input, size_t input_length, uint64_t *nodes, size_t nodes_length, uint8_t *text,
+                               size_t text_length, uint64_t *stack, size_t stack_length, uint64_t *told, size_t told_length);
+
+/* Whether words and a text start with the arena of a tree, whoever wrote them.
+ * Tells 2 words: how many nodes and text bytes the tree takes. Refusals: 26 (told), 27. */
+uint64_t stazzumpi_check_arena(const uint64_t *words, size_t words_length, const uint8_t *text, size_t text_length,
+                               uint64_t *told, size_t told_length);
+
+/* Whether tables break no rule of document 01. A row has five words in each table; names and texts are ranges of `names`.
+ *   words 0 and 1  where the row's name begins in `names`, and its length (a sort's: kinds 9 and 10 alone)
+ *   sorts          2: the kind, 1 bool, 2 string, 3 decimal, 4 datetime, 5 duration, 6 bitvec, 7 option, 8 set, 9 entity,
+ *                  10 record; 3: the width of 6, the row of 7 and 8; 3 and 4: where the fields of 10 begin in `fields`, and
+ *                  how many they are
+ *   variables      2: the row of its sort
+ *   functions      2 and 3: the rows of its argument's and its result's sort
+ *   members        2: the row of its entity; 3 and 4: where its text begins in `names`, and its length
+ * Words that a row does not need are not looked at. Tells nothing. Refusal: 25. */
+#define STAZZUMPI_ROW_WORDS 5
+uint64_t stazzumpi_check_tables(const uint64_t *sorts, size_t sorts_length, const uint64_t *fields, size_t fields_length,
+                                const uint64_t *variables, size_t variables_length, const uint64_t *functions,
+                                size_t functions_length, const uint64_t *members, size_t members_length, const uint8_t *names,
+                                size_t names_length);
+
+/* The lines of a script, each with its line feed at the front of `out`.
+ * Each tells 1 word: the length of the line. Refusals: 26 (told); 9 for an input of more than 16,777,216 elements; 25 for ends that
+ * fall or pass their string, or that are odd in count where they are pairs; 26 for `out`.
+ * A list of texts is one string and the ends of its parts: `{2, 5}` over `abcde` is `ab` and `cde`. */
+uint64_t stazzumpi_set_logic(const uint8_t *logic, size_t logic_length, uint8_t *out, size_t out_length, uint64_t *told,
+                             size_t told_length);
+
+uint64_t stazzumpi_set_option(const uint8_t *option, size_t option_length, const uint8_t *value, size_t value_length, uint8_t *out,
+                              size_t out_length, uint64_t *told, size_t told_length);
+
+/* The comment's line feeds become spaces. */
+uint64_t stazzumpi_comment(const uint8_t *text, size_t text_length, uint8_t *out, size_t out_length, uint64_t *told,
+                           size_t told_length);
+
+uint64_t stazzumpi_assert(const uint8_t *term, size_t term_length, uint8_t *out, size_t out_length, uint64_t *told,
+                          size_t told_length);
+
+/* The arguments are pairs of a name and a sort, two ends each. */
+uint64_t stazzumpi_define_fun(const uint8_t *name, size_t name_length, const uint8_t *string, size_t string_length,
+                              const uint64_t *ends, size_t ends_length, const uint8_t *sort, size_t sort_length,
+                              const uint8_t *body, size_t body_length, uint8_t *out, size_t out_length, uint64_t *told,
+                              size_t told_length);
+
+uint64_t stazzumpi_declare_const(const uint8_t *name, size_t name_length, const uint8_t *sort, size_t sort_length, uint8_t *out,
+                                 size_t out_length, uint64_t *told, size_t told_length);
+
+/* The arguments are sorts. */
+uint64_t stazzumpi_declare_fun(const uint8_t *name, size_t name_length, const uint8_t *string, size_t string_length,
+                               const uint64_t *ends, size_t ends_length, const uint8_t *sort, size_t sort_length, uint8_t *out,
+                               size_t out_length, uint64_t *told, size_t told_length);
+
+uint64_t stazzumpi_declare_datatype(const uint8_t *name, size_t name_length, const uint8_t *parameters, size_t parameters_length,
+                                    const uint64_t *parameter_ends, size_t parameter_ends_length, const uint8_t *constructors,
+                                    size_t constructors_length, const uint64_t *constructor_ends, size_t constructor_ends_length,
+                                    uint8_t *out, size_t out_length, uint64_t *told, size_t told_length);
+
+uint64_t stazzumpi_check_sat(uint8_t *out, size_t out_length, uint64_t *told, size_t told_length);
+
+uint64_t stazzumpi_get_model(uint8_t *out, size_t out_length, uint64_t *told, size_t told_length);
+
+uint64_t stazzumpi_reset(uint8_t *out, size_t out_length, uint64_t *told, size_t told_length);
+
+uint64_t stazzumpi_exit(uint8_t *out, size_t out_length, uint64_t *told, size_t told_length);
+
+#ifdef __cplusplus
+}
+#endif
+
+#endif

@@ -1,0 +1,111 @@
+//! Our library beside the crate: what `rt staticlib stazzumpi` writes, called as C calls it.
+
+extern "C" {
+    // A slice is passed as two words, its address and its length.
+    #[allow(improper_ctypes)]
+    fn stazzumpi_decode_string(s: &[u8], out: &mut [u8], told: &mut [u64]) -> u64;
+    #[allow(improper_ctypes)]
+    fn stazzumpi_parse_sexpr(input: &[u8], nodes: &mut [u64], text: &mut [u8], stack: &mut [u64], told: &mut [u64]) -> u64;
+    #[allow(improper_ctypes)]
+    fn stazzumpi_check_arena(words: &[u64], text: &[u8], told: &mut [u64]) -> u64;
+    #[allow(improper_ctypes)]
+    fn stazzumpi_set_logic(logic: &[u8], out: &mut [u8], told: &mut [u64]) -> u64;
+    #[allow(improper_ctypes)]
+    fn stazzumpi_set_option(option: &[u8], value: &[u8], out: &mut [u8], told: &mut [u64]) -> u64;
+    #[allow(improper_ctypes)]
+    fn stazzumpi_comment(text: &[u8], out: &mut [u8], told: &mut [u64]) -> u64;
+    #[allow(improper_ctypes)]
+    fn stazzumpi_assert(term: &[u8], out: &mut [u8], told: &mut [u64]) -> u64;
+    #[allow(improper_ctypes)]
+    fn stazzumpi_define_fun(name: &[u8], string: &[u8], ends: &[u64], sort: &[u8], body: &[u8], out: &mut [u8], told: &mut [u64]) -> u64;
+    #[allow(improper_ctypes)]
+    fn stazzumpi_declare_const(name: &[u8], sort: &[u8], out: &mut [u8], told: &mut [u64]) -> u64;
+    #[allow(improper_ctypes)]
+    fn stazzumpi_declare_fun(name: &[u8], string: &[u8], ends: &[u64], sort: &[u8], out: &mut [u8], told: &mut [u64]) -> u64;
+    #[allow(improper_ctypes)]
+    fn stazzumpi_declare_datatype(name: &[u8], parameters: &[u8], stops: &[u64], constructors: &[u8], ends: &[u64], out: &mut [u8], told: &mut [u64]) -> u64;
+    #[allow(improper_ctypes)]
+    fn stazzumpi_check_sat(out: &mut [u8], told: &mut [u64]) -> u64;
+    #[allow(improper_ctypes)]
+    fn stazzumpi_get_model(out: &mut [u8], told: &mut [u64]) -> u64;
+    #[allow(improper_ctypes)]
+    fn stazzumpi_reset(out: &mut [u8], told: &mut [u64]) -> u64;
+    #[allow(improper_ctypes)]
+    fn stazzumpi_exit(out: &mut [u8], told: &mut [u64]) -> u64;
+}
+
+// Every slice below is a live borrow of its own, which is all that the library asks of its caller.
+
+pub fn decode_string(s: &[u8], out: &mut [u8], told: &mut [u64]) -> u64 {
+    unsafe { stazzumpi_decode_string(s, out, told) }
+}
+
+pub fn parse_sexpr(input: &[u8], nodes: &mut [u64], text: &mut [u8], stack: &mut [u64], told: &mut [u64]) -> u64 {
+    unsafe { stazzumpi_parse_sexpr(input, nodes, text, stack, told) }
+}
+
+pub fn check_arena(words: &[u64], text: &[u8], told: &mut [u64]) -> u64 {
+    unsafe { stazzumpi_check_arena(words, text, told) }
+}
+
+/// A list as the script's calls take it: the texts one after the other, and where each ends.
+#[derive(Clone, Debug, Default)]
+pub struct Joined {
+    pub string: Vec<u8>,
+    pub ends: Vec<u64>,
+}
+
+impl Joined {
+    pub fn of(texts: &[String]) -> Joined {
+        texts.iter().fold(Joined::default(), |mut list, text| {
+            list.string.extend_from_slice(text.as_bytes());
+            list.ends.push(list.string.len() as u64);
+            list
+        })
+    }
+}
+
+/// One of the twelve lines, with its parts.
+#[derive(Clone, Debug)]
+pub enum Line {
+    SetLogic(String),
+    SetOption(String, String),
+    Comment(String),
+    Assert(String),
+    DefineFun(String, Vec<String>, String, String),
+    DeclareConst(String, String),
+    DeclareFun(String, Vec<String>, String),
+    DeclareDatatype(String, Vec<String>, Vec<String>),
+    CheckSat,
+    GetModel,
+    Reset,
+    Exit,
+}
+
+pub fn write(line: &Line, out: &mut [u8], told: &mut [u64]) -> u64 {
+    unsafe {
+        match line {
+            Line::SetLogic(logic) => stazzumpi_set_logic(logic.as_bytes(), out, told),
+            Line::SetOption(option, value) => stazzumpi_set_option(option.as_bytes(), value.as_bytes(), out, told),
+            Line::Comment(text) => stazzumpi_comment(text.as_bytes(), out, told),
+            Line::Assert(term) => stazzumpi_assert(term.as_bytes(), out, told),
+            Line::DefineFun(name, pairs, sort, body) => {
+                let list = Joined::of(pairs);
+                stazzumpi_define_fun(name.as_bytes(), &list.string, &list.ends, sort.as_bytes(), body.as_bytes(), out, told)
+            }
+            Line::DeclareConst(name, sort) => stazzumpi_declare_const(name.as_bytes(), sort.as_bytes(), out, told),
+            Line::DeclareFun(name, sorts, sort) => {
+                let list = Joined::of(sorts);
+                stazzumpi_declare_fun(name.as_bytes(), &list.string, &list.ends, sort.as_bytes(), out, told)
+            }
+            Line::DeclareDatatype(name, parameters, constructors) => {
+                let (first, second) = (Joined::of(parameters), Joined::of(constructors));
+                stazzumpi_declare_datatype(name.as_bytes(), &first.string, &first.ends, &second.string, &second.ends, out, told)
+            }
+            Line::CheckSat => stazzumpi_check_sat(out, told),
+            Line::GetModel => stazzumpi_get_model(out, told),
+            Line::Reset => stazzumpi_reset(out, told),
+            Line::Exit => stazzumpi_exit(out, told),
+        }
+    }
+}
