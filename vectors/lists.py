@@ -5,7 +5,8 @@ from pathlib import Path
 HERE = Path(__file__).resolve().parent
 CRATES = HERE.parent / "crates"
 REPLAYED = {name: (CRATES / program / "stdin", CRATES / program / "stdout")
-            for name, program in (("strings", "replay_leaves"), ("trees", "replay_trees"))}
+            for name, program in (
+                ("strings", "replay_leaves"), ("trees", "replay_trees"), ("tables", "replay_tables"), ("lines", "replay_lines"))}
 
 
 def files(name):

@@ -13,7 +13,7 @@ HERE = Path(__file__).resolve().parent
 sys.path.append(str(HERE.parent / "oracle"))
 import walk  # noqa: E402  (the path above has to come first)
 from asking import answers  # noqa: E402
-from cases import leaves, lines, listings, rooms, strings, trees  # noqa: E402
+from cases import ends, leaves, lines, listings, rooms, strings, tables, trees  # noqa: E402
 from lists import files  # noqa: E402
 
 SEED = 20261115
@@ -40,9 +40,9 @@ def table(name, spans):
 def put(name, mode, ranges, own_ranges=()):
     """Writes a list and its answers, behind it cases of our own, whose answers need no Rust; gives back the lines for the table of ranges."""
     cases, spans = gathered(ranges + [(origin, [case for case, _ in pairs]) for origin, pairs in own_ranges])
-    asked = spans[len(ranges) - 1][1]
+    asked = spans[len(ranges) - 1][1] if ranges else 0
     own = dict(pair for _, pairs in own_ranges for pair in pairs)
-    found = answers(mode, cases[:asked]) + [own[case] for case in cases[asked:]]
+    found = (answers(mode, cases[:asked]) if asked else []) + [own[case] for case in cases[asked:]]
     for path, rows in zip(files(name), (cases, found)):
         written(path, rows)
     return table(name, spans)
@@ -97,11 +97,13 @@ def put_replies():
 def main():
     seed = int(sys.argv[1]) if len(sys.argv) > 1 else SEED
     replies = list(dict.fromkeys(path.read_bytes() for path in real("model") + real("value")))
+    real_tables = list(dict.fromkeys(path.read_bytes() for path in sorted(HERE.glob("replies/**/tables.txt"))))
     (HERE / "listings").mkdir(exist_ok=True)
     # One generator a list, so that a change to one list leaves the others as they are.
     rows = put("strings", "strings", in_hex(strings.ranges(random.Random(f"{seed} strings"), replies)), leaves.ranges())
     rows += put("trees", "trees", in_hex(trees.ranges(random.Random(f"{seed} trees"), replies)), rooms.ranges())
-    rows += put("lines", "lines", lines.ranges(random.Random(f"{seed} lines")))
+    rows += put("tables", "tables", [], tables.ranges(random.Random(f"{seed} tables"), real_tables))
+    rows += put("lines", "lines", lines.ranges(random.Random(f"{seed} lines")), ends.ranges())
     rows += put_listings(random.Random(f"{seed} listings"))
     put_replies()
     written(HERE / "RANGES.md", ["# Where each range of lines comes from", "", f"Made by make.py with the seed {seed}.", "",

@@ -20,13 +20,25 @@ same-lengths (x ∷ xs) [] h = refl
 same-lengths (x ∷ xs) (y ∷ ys) h =
     sym (and-false (eqb x y)) ∙ ap (λ (t : Bool). eqb x y && t) (same-lengths xs ys (λ e. h (ap suc e)))
 
+and-assoc : (x y z : Bool) → (x && (y && z)) ≡ ((x && y) && z)
+and-assoc true y z = refl
+and-assoc false y z = refl
+
+and-true : (x : Bool) → (x && true) ≡ x
+and-true true = refl
+and-true false = refl
+
 module _ (a b : List ℕ) (i : ℕ) (inside : i < length a) (within : i < length b) where
   same-step : sameText (drop i a) (drop i b) ≡ (eqb (getD a i 0) (getD b i 0) && sameText (drop (i + 1) a) (drop (i + 1) b))
   unfolding sameText
   same-step = rw (at-place a i inside, at-place b i within)
 
-  pub same-more : getD a i 0 ≡ getD b i 0 → sameText (drop i a) (drop i b) ≡ sameText (drop (i + 1) a) (drop (i + 1) b)
-  same-more e = same-step ∙ ap (λ (t : Bool). t && sameText (drop (i + 1) a) (drop (i + 1) b)) (eq-eqb _ _ e)
+  -- what was alike so far, and these two bytes
+  pub same-onward : (all next : Bool) → next ≡ (all && eqb (getD a i 0) (getD b i 0)) → (all && sameText (drop i a) (drop i b)) ≡ (next && sameText (drop (i + 1) a) (drop (i + 1) b))
+  same-onward all next e =
+      ap (λ (t : Bool). all && t) same-step
+      ∙ and-assoc all (eqb (getD a i 0) (getD b i 0)) (sameText (drop (i + 1) a) (drop (i + 1) b))
+      ∙ ap (λ (t : Bool). t && sameText (drop (i + 1) a) (drop (i + 1) b)) (sym e)
 
   pub same-stop : (getD a i 0 ≡ getD b i 0 → ⊥) → sameText (drop i a) (drop i b) ≡ false
   same-stop e = same-step ∙ ap (λ (t : Bool). t && sameText (drop (i + 1) a) (drop (i + 1) b)) (ne-eqb _ _ e)
@@ -34,6 +46,12 @@ module _ (a b : List ℕ) (i : ℕ) (inside : i < length a) (within : i < length
 pub same-end : (a b : List ℕ) (i : ℕ) → length a ≡ length b → i ≡ length a → sameText (drop i a) (drop i b) ≡ true
 unfolding sameText
 same-end a b i e h = rw (h, drop-length a, e, drop-length b)
+
+pub same-all : (a b : List ℕ) (i : ℕ) (all : Bool) → length a ≡ length b → i ≡ length a → sameText a b ≡ (all && sameText (drop i a) (drop i b)) → all ≡ sameText a b
+same-all a b i all e h q = sym (q ∙ ap (λ (t : Bool). all && t) (same-end a b i e h) ∙ and-true all)
+
+pub same-none : (a b : List ℕ) → length a ≡ length b → length a ≡ 0 → true ≡ sameText a b
+same-none a b e h = sym (same-end a b 0 e (sym h))
 
 -- the test says yes of equal texts, and of no others
 pub same-refl : (a : List ℕ) → sameText a a ≡ true

@@ -1,7 +1,6 @@
 // One case: its first byte says which function it is for, and its fields are in hexadecimal.
 use crate::shows;
 use words::Pair;
-use words::Parsed;
 use words::Radix;
 
 // `U` the test of UTF-8, `E` an encoding, `B` `D` `X` a run of digits, `S` sign extension, `C` order, `W` a power of two,
@@ -26,7 +25,7 @@ pub fn answer(case: &[u8], bytes: &mut [u8], text: &mut [u8], line: &mut [u8]) {
     let start = 2;
     let zero = 0;
     let split = replay::field_end(case, start, b' ');
-    let first = number(&case[start..split]);
+    let first = replay::number(&case[start..split]);
     if kind == b'E' {
         return shows::encoding(utf8::encode((first.low % 4294967296) as u32), line);
     }
@@ -59,22 +58,13 @@ pub fn answer(case: &[u8], bytes: &mut [u8], text: &mut [u8], line: &mut [u8]) {
     shows::parsed(words::parse(run, Radix::Hexadecimal), line)
 }
 
-// The number that a field stands for; a field that is none counts as 0.
-fn number(field: &[u8]) -> Pair {
-    let found = words::parse(field, Radix::Hexadecimal);
-    let Parsed::Number(pair) = found else {
-        return Pair::zero();
-    };
-    pair
-}
-
 // The number of the field after the one that ends at split.
 fn second(case: &[u8], split: usize) -> Pair {
     if case.len() <= split {
         return Pair::zero();
     }
     let start = split + 1;
-    number(&case[start..])
+    replay::number(&case[start..])
 }
 
 fn string(case: &[u8], bytes: &mut [u8], text: &mut [u8], line: &mut [u8]) {
@@ -92,7 +82,7 @@ fn string_in_room(case: &[u8], bytes: &mut [u8], text: &mut [u8], line: &mut [u8
     let start = 2;
     let zero = 0;
     let split = replay::field_end(case, start, b' ');
-    let room = (number(&case[start..split]).low % 4096) as usize;
+    let room = (replay::number(&case[start..split]).low % 4096) as usize;
     if text.len() < room {
         return;
     }
@@ -105,15 +95,7 @@ fn string_in_room(case: &[u8], bytes: &mut [u8], text: &mut [u8], line: &mut [u8
 }
 
 fn string_marked(s: &[u8], room: &mut [u8], line: &mut [u8]) {
-    mark(room);
+    replay::mark_bytes(room);
     let found = strings::decode_string(s, room);
     shows::lent(found, room, line);
-}
-
-fn mark(buffer: &mut [u8]) {
-    let mut at = 0;
-    while at < buffer.len() {
-        buffer[at] = 0xEE;
-        at += 1;
-    }
 }

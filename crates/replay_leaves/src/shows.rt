@@ -1,22 +1,15 @@
 // An answer, as a line on standard output.
 use lent::Written;
 use libc::STDOUT_FILENO;
+use refusals::Refusal;
 use utf8::Encoded;
 use words::Order;
 use words::Pair;
 use words::Parsed;
 
-fn flush(line: &mut [u8], end: usize) {
-    let to = replay::put(b"\n", line, end);
-    if to <= line.len() {
-        let zero = 0;
-        io::write_all(STDOUT_FILENO, &line[zero..to]);
-    }
-}
-
 fn word(name: &[u8], line: &mut [u8]) {
     let end = replay::put(name, line, 0);
-    flush(line, end);
+    replay::finish(line, end);
 }
 
 pub fn yes_or_no(answer: bool, line: &mut [u8]) {
@@ -39,26 +32,25 @@ pub fn pair(answer: Pair, line: &mut [u8]) {
     let name = replay::put(b"number=", line, 0);
     let high = replay::put_word(answer.high, line, name);
     let end = replay::put_word(answer.low, line, high);
-    flush(line, end);
+    replay::finish(line, end);
 }
 
-fn refusal(number: u64, line: &mut [u8]) {
-    let name = replay::put(b"refused=", line, 0);
-    let end = replay::put_number(number, line, name);
-    flush(line, end);
+fn refusal(why: Refusal, line: &mut [u8]) {
+    let end = replay::put_refusal(why, line, 0);
+    replay::finish(line, end);
 }
 
 pub fn parsed(answer: Parsed, line: &mut [u8]) {
     match answer {
         Parsed::Number(number) => pair(number, line),
-        Parsed::Refused(why) => refusal(why.number(), line),
+        Parsed::Refused(why) => refusal(why, line),
     }
 }
 
 fn hex(bytes: &[u8], line: &mut [u8]) {
     let name = replay::put(b"bytes=", line, 0);
     let end = replay::put_hex(bytes, line, name);
-    flush(line, end);
+    replay::finish(line, end);
 }
 
 pub fn encoding(answer: Encoded, line: &mut [u8]) {
@@ -83,7 +75,7 @@ fn decimal(written: Written, line: &mut [u8]) {
     let Written::Length(end) = written else {
         return;
     };
-    flush(line, end);
+    replay::finish(line, end);
 }
 
 pub fn string(answer: Written, text: &[u8], line: &mut [u8]) {
@@ -96,7 +88,7 @@ pub fn string(answer: Written, text: &[u8], line: &mut [u8]) {
                 io::write_all(STDOUT_FILENO, b"\n");
             }
         }
-        Written::Refused(why) => refusal(why.number(), line),
+        Written::Refused(why) => refusal(why, line),
     }
 }
 
@@ -104,15 +96,11 @@ pub fn string(answer: Written, text: &[u8], line: &mut [u8]) {
 pub fn lent(answer: Written, buffer: &[u8], line: &mut [u8]) {
     match answer {
         Written::Length(count) => {
-            let name = replay::put(b"length=", line, 0);
-            let end = replay::put_number(count as u64, line, name);
+            let end = replay::put_named(b"length=", count, line, 0);
             lent_buffer(buffer, line, end);
         }
         Written::Refused(why) => {
-            let name = replay::put(b"refused=", line, 0);
-            let number = replay::put_number(why.number(), line, name);
-            let detail = replay::put(b" detail=", line, number);
-            let end = replay::put_number(why.detail() as u64, line, detail);
+            let end = replay::put_detailed(why, line, 0);
             lent_buffer(buffer, line, end);
         }
     }
@@ -121,5 +109,5 @@ pub fn lent(answer: Written, buffer: &[u8], line: &mut [u8]) {
 fn lent_buffer(buffer: &[u8], line: &mut [u8], start: usize) {
     let name = replay::put(b" buffer=", line, start);
     let end = replay::put_hex(buffer, line, name);
-    flush(line, end);
+    replay::finish(line, end);
 }

@@ -1,7 +1,5 @@
 // One case: an input in hexadecimal, read in plenty of room or in rooms of its own.
 use crate::shows;
-use words::Parsed;
-use words::Radix;
 ghost use Prim.Native.Nat.{_≤_};
 
 // `R` and three numbers of four digits are the rooms: words, text bytes and stack entries.
@@ -45,11 +43,7 @@ fn in_plenty(
 fn room(field: &[u8], most: usize) -> usize
     ensures { λ r. ⌜ r ≤ most ⌝ }
 {
-    let found = words::parse(field, Radix::Hexadecimal);
-    let Parsed::Number(pair) = found else {
-        return 0;
-    };
-    let asked = (pair.low % 65536) as usize;
+    let asked = (replay::number(field).low % 65536) as usize;
     if asked < most { asked } else { most }
 }
 
@@ -81,7 +75,7 @@ fn in_rooms(
 // All that is lent is marked first and shown afterwards.
 fn in_marked(input: &[u8], nodes: &mut [u64], text: &mut [u8], stack: &mut [u64], line: &mut [u8]) {
     mark_words(nodes);
-    mark_bytes(text);
+    replay::mark_bytes(text);
     mark_words(stack);
     let found = reader::parse_sexpr(input, nodes, text, stack);
     shows::lent(found, nodes, text, stack, line);
@@ -91,14 +85,6 @@ fn mark_words(buffer: &mut [u64]) {
     let mut at = 0;
     while at < buffer.len() {
         buffer[at] = 0xEEEEEEEEEEEEEEEE;
-        at += 1;
-    }
-}
-
-fn mark_bytes(buffer: &mut [u8]) {
-    let mut at = 0;
-    while at < buffer.len() {
-        buffer[at] = 0xEE;
         at += 1;
     }
 }

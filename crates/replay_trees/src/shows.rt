@@ -1,6 +1,5 @@
 // An answer, as a line on standard output; it is gathered in a lent buffer and written when that is nearly full.
 use arena::STRIDE;
-use libc::STDOUT_FILENO;
 use reader::Reading;
 use refusals::Refusal;
 ghost use Prim.Native.Nat.{_≤_};
@@ -9,32 +8,6 @@ ghost use Rattle.replay.specs.Places.{Onward};
 
 // Enough for a word, what parts it from the one before, and the name of what follows the last one.
 const SPARE: usize = 64;
-
-fn flush(line: &[u8], end: usize)
-    requires { ⌜ end ≤ length (now line) ⌝ }
-{
-    let zero = 0;
-    io::write_all(STDOUT_FILENO, &line[zero..end]);
-}
-
-fn finish(line: &mut [u8], end: usize)
-    requires { ⌜ end ≤ length (now line) ⌝ }
-{
-    let to = replay::put(b"\n", line, end);
-    flush(line, to);
-}
-
-// Where the next word may begin: at the front again, once there might be no room for it behind the others.
-fn room(line: &[u8], end: usize) -> usize
-    requires { ⌜ end ≤ length (now line) ⌝ }
-    ensures { λ r. ⌜ r ≤ length (now (line .entry)) ⌝ }
-{
-    if SPARE <= line.len() - end {
-        return end;
-    }
-    flush(line, end);
-    0
-}
 
 // A word in as few digits as it takes.
 fn put_digits(word: u64, line: &mut [u8], start: usize) -> usize
@@ -65,7 +38,7 @@ fn put_words(words: &[u64], line: &mut [u8], start: usize) -> usize
     let mut end = start;
     let mut at = 0;
     while at < words.len() {
-        let free = room(line, end);
+        let free = replay::room(line, end, SPARE);
         let parted = put_parting(at, line, free);
         end = put_digits(words[at], line, parted);
         at += 1;
@@ -86,15 +59,8 @@ pub fn reading(answer: Reading, nodes: &[u64], text: &[u8], line: &mut [u8]) {
 }
 
 fn refusal(why: Refusal, line: &mut [u8]) {
-    let end = put_refusal(why, line);
-    finish(line, end);
-}
-
-fn put_refusal(why: Refusal, line: &mut [u8]) -> usize
-    ensures { λ r. ⌜ r ≤ length (now (line .entry)) ⌝ }
-{
-    let name = replay::put(b"refused=", line, 0);
-    replay::put_number(why.number(), line, name)
+    let end = replay::put_refusal(why, line, 0);
+    replay::finish(line, end);
 }
 
 fn tree(count: usize, length: usize, depth: usize, nodes: &[u64], text: &[u8], line: &mut [u8]) {
@@ -110,7 +76,7 @@ fn tree(count: usize, length: usize, depth: usize, nodes: &[u64], text: &[u8], l
     replay::write_hex(&text[zero..length], line);
     let name = replay::put(b" depth=", line, 0);
     let end = put_digits(depth as u64, line, name);
-    finish(line, end);
+    replay::finish(line, end);
 }
 
 // What stands in the line, the words under a name, and the name of what follows them.
@@ -120,7 +86,7 @@ fn write_words(name: &[u8], words: &[u64], next: &[u8], line: &mut [u8], start: 
     let named = replay::put(name, line, start);
     let end = put_words(words, line, named);
     let to = replay::put(next, line, end);
-    flush(line, to);
+    replay::flush(line, to);
 }
 
 // The answer with its needs or its detail, and all that was lent.
@@ -136,28 +102,14 @@ fn put_answer(answer: Reading, line: &mut [u8]) -> usize
 {
     match answer {
         Reading::Read { nodes, text, depth } => put_needs(nodes, text, depth, line),
-        Reading::Refused(why) => put_detailed(why, line),
+        Reading::Refused(why) => replay::put_detailed(why, line, 0),
     }
 }
 
 fn put_needs(nodes: usize, text: usize, depth: usize, line: &mut [u8]) -> usize
     ensures { λ r. ⌜ r ≤ length (now (line .entry)) ⌝ }
 {
-    let first = put_named(b"nodes=", nodes, line, 0);
-    let second = put_named(b" text=", text, line, first);
-    put_named(b" depth=", depth, line, second)
-}
-
-fn put_detailed(why: Refusal, line: &mut [u8]) -> usize
-    ensures { λ r. ⌜ r ≤ length (now (line .entry)) ⌝ }
-{
-    let end = put_refusal(why, line);
-    put_named(b" detail=", why.detail(), line, end)
-}
-
-fn put_named(name: &[u8], number: usize, line: &mut [u8], start: usize) -> usize
-    ensures { λ r. ⌜ Onward (length (now (line .entry))) start r ⌝ }
-{
-    let named = replay::put(name, line, start);
-    replay::put_number(number as u64, line, named)
+    let first = replay::put_named(b"nodes=", nodes, line, 0);
+    let second = replay::put_named(b" text=", text, line, first);
+    replay::put_named(b" depth=", depth, line, second)
 }

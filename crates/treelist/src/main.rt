@@ -11,7 +11,7 @@ fn main() {
     let mut input = io::large_buffer();
     let mut nodes = node_words();
     let mut text = io::large_buffer();
-    let mut stack = stack_words();
+    let mut stack = replay::stack_words();
     let mut line = io::large_buffer();
     list(&mut input, &mut nodes, &mut text, &mut stack, &mut line);
 }
@@ -21,13 +21,6 @@ fn node_words() -> [u64; 8192]
     ensures { λ r. ⌜ 8192 ≡ length r ⌝ }
 {
     [0; 8192]
-}
-
-// Room for 4,096 open brackets.
-fn stack_words() -> [u64; 4096]
-    ensures { λ r. ⌜ 4096 ≡ length r ⌝ }
-{
-    [0; 4096]
 }
 
 fn list(input: &mut [u8], nodes: &mut [u64], text: &mut [u8], stack: &mut [u64], line: &mut [u8]) {

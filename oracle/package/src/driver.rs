@@ -12,7 +12,7 @@ mod lent;
 mod lines;
 mod listings;
 mod numbers;
-#[cfg(feature = "ours")]
+#[cfg(any(feature = "ours", feature = "bench"))]
 mod ours;
 mod strings;
 mod tables;

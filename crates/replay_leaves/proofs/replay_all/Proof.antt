@@ -1,149 +1,99 @@
-use mathlib.Core.Path.{_≡_, _∙_}
-use Prim.Native.Nat.{_-_, _≤_}
-use native.Mathlib.Omega.{arith}
+use mathlib.Core.Path.{_≡_}
 use lib.ListN.{length}
 use borrow.Author.Needs.{needs}
 use Rattle.replay_leaves.proofs.replay_all.Statement.{statement}
 use Rattle.replay_leaves.proofs.replay_all.Tie as tie
 use Rattle.replay_leaves.proofs.replay_all.Reads as reads
 use Rattle.replay_leaves.proofs.replay_all.Lts as lts
-use Rattle.io.proofs.read_full.Reads as read-full-reads
-use Rattle.replay.proofs.keep.Reads as keep-reads
-use Rattle.replay_leaves.proofs.replay_lines.Reads as replay-lines-reads
+use Rattle.replay.proofs.before_lines.Reads as before-lines-reads
+use Rattle.replay.proofs.next_line.Reads as next-line-reads
+use Rattle.replay_leaves.proofs.cases.answer.Reads as answer-reads
 
 abbrev Inv-loop : tie.InvT-loop
-Inv-loop input₀ bytes₀ text₀ line₀ kept₀ turns₀ input bytes text line kept turns = (length input ≡ length input₀) × (length bytes ≡ length bytes₀) × (length text ≡ length text₀) × (length line ≡ length line₀)
+Inv-loop input₀ bytes₀ text₀ line₀ at₀ turns₀ input bytes text line at turns = (length input ≡ length input₀) × (length bytes ≡ length bytes₀) × (length text ≡ length text₀) × (length line ≡ length line₀)
 
 abbrev μ-loop : tie.MeasureT-loop
-μ-loop input₀ bytes₀ text₀ line₀ kept₀ turns₀ input bytes text line kept turns = turns
+μ-loop input₀ bytes₀ text₀ line₀ at₀ turns₀ input bytes text line at turns = turns
 
--- src/main.rt:21:5
+-- src/main.rt:15:9
+before-lines-requires : tie.Need-before-lines-requires Inv-loop μ-loop
+before-lines-requires c κs = search needs
+
+-- src/main.rt:17:5
 loop-holds : tie.Need-loop-holds Inv-loop μ-loop
 loop-holds c = search needs
 
--- src/main.rt:22:9
+-- src/main.rt:18:9
 sub-turns : tie.Need-sub-turns Inv-loop μ-loop
 sub-turns c = search needs
 
--- src/main.rt:24:13
+-- src/main.rt:19:9
+next-line-requires : tie.Need-next-line-requires Inv-loop μ-loop
+next-line-requires c κs = search needs
+
+-- src/main.rt:21:13
 same-length : tie.Need-same-length Inv-loop μ-loop
 same-length c = search needs
 
--- src/main.rt:24:13
+-- src/main.rt:21:13
 same-length-2 : tie.Need-same-length-2 Inv-loop μ-loop
 same-length-2 c = search needs
 
--- src/main.rt:24:13
+-- src/main.rt:21:13
 same-length-3 : tie.Need-same-length-3 Inv-loop μ-loop
 same-length-3 c = search needs
 
--- src/main.rt:24:13
+-- src/main.rt:21:13
 same-length-4 : tie.Need-same-length-4 Inv-loop μ-loop
 same-length-4 c = search needs
 
--- src/main.rt:24:13
+-- src/main.rt:21:13
 returns : tie.Need-returns Inv-loop μ-loop
 returns c = search needs
 
--- src/main.rt:26:47
-sub-read-full : tie.Need-sub-read-full Inv-loop μ-loop
-sub-read-full c = search needs
+-- src/main.rt:25:23
+sub-answer : tie.Need-sub-answer Inv-loop μ-loop
+sub-answer c = search needs
 
--- src/main.rt:26:47
-part-read-full-start : tie.Need-part-read-full-start Inv-loop μ-loop
-part-read-full-start c = search needs
+-- src/main.rt:25:23
+part-answer-start : tie.Need-part-answer-start Inv-loop μ-loop
+part-answer-start c = search needs
 
--- src/main.rt:26:47
-part-read-full-end : tie.Need-part-read-full-end Inv-loop μ-loop
-part-read-full-end c = search needs
+-- src/main.rt:25:23
+part-answer-end : tie.Need-part-answer-end Inv-loop μ-loop
+part-answer-end c = search needs
 
--- src/main.rt:26:13
-read-full-requires : tie.Need-read-full-requires Inv-loop μ-loop
-read-full-requires c κs = search needs
+-- src/main.rt:25:9
+answer-requires : tie.Need-answer-requires Inv-loop μ-loop
+answer-requires c κs = search needs
 
--- src/main.rt:27:12
-sub-if2 : tie.Need-sub-if2 Inv-loop μ-loop
-sub-if2 c = search needs
-
--- src/main.rt:28:13
-same-length-5 : tie.Need-same-length-5 Inv-loop μ-loop
-same-length-5 c = search needs
-
--- src/main.rt:28:13
-same-length-6 : tie.Need-same-length-6 Inv-loop μ-loop
-same-length-6 c = search needs
-
--- src/main.rt:28:13
-same-length-7 : tie.Need-same-length-7 Inv-loop μ-loop
-same-length-7 c = search needs
-
--- src/main.rt:28:13
-same-length-8 : tie.Need-same-length-8 Inv-loop μ-loop
-same-length-8 c = search needs
-
--- src/main.rt:28:13
-returns-2 : tie.Need-returns-2 Inv-loop μ-loop
-returns-2 c = search needs
-
--- src/main.rt:30:19
-add-end : tie.Need-add-end Inv-loop μ-loop
-add-end c = search needs
-
--- src/main.rt:31:13
-replay-lines-requires : tie.Need-replay-lines-requires Inv-loop μ-loop
-replay-lines-requires c κs = search needs
-
--- src/main.rt:33:13
-same-length-9 : tie.Need-same-length-9 Inv-loop μ-loop
-same-length-9 c = search needs
-
--- src/main.rt:33:13
-same-length-10 : tie.Need-same-length-10 Inv-loop μ-loop
-same-length-10 c = search needs
-
--- src/main.rt:33:13
-same-length-11 : tie.Need-same-length-11 Inv-loop μ-loop
-same-length-11 c = search needs
-
--- src/main.rt:33:13
-same-length-12 : tie.Need-same-length-12 Inv-loop μ-loop
-same-length-12 c = search needs
-
--- src/main.rt:33:13
-returns-3 : tie.Need-returns-3 Inv-loop μ-loop
-returns-3 c = search needs
-
--- src/main.rt:35:9
-keep-requires : tie.Need-keep-requires Inv-loop μ-loop
-keep-requires c κs = search needs
-
--- src/main.rt:21:5
+-- src/main.rt:17:5
 loop-less : tie.Need-loop-less Inv-loop μ-loop
 loop-less c = search needs
 
--- src/main.rt:21:5
+-- src/main.rt:17:5
 loop-again : tie.Need-loop-again Inv-loop μ-loop
 loop-again c = search needs
 
--- src/main.rt:18:1
-same-length-13 : tie.Need-same-length-13 Inv-loop μ-loop
-same-length-13 c = search needs
+-- src/main.rt:14:1
+same-length-5 : tie.Need-same-length-5 Inv-loop μ-loop
+same-length-5 c = search needs
 
--- src/main.rt:18:1
-same-length-14 : tie.Need-same-length-14 Inv-loop μ-loop
-same-length-14 c = search needs
+-- src/main.rt:14:1
+same-length-6 : tie.Need-same-length-6 Inv-loop μ-loop
+same-length-6 c = search needs
 
--- src/main.rt:18:1
-same-length-15 : tie.Need-same-length-15 Inv-loop μ-loop
-same-length-15 c = search needs
+-- src/main.rt:14:1
+same-length-7 : tie.Need-same-length-7 Inv-loop μ-loop
+same-length-7 c = search needs
 
--- src/main.rt:18:1
-same-length-16 : tie.Need-same-length-16 Inv-loop μ-loop
-same-length-16 c = search needs
+-- src/main.rt:14:1
+same-length-8 : tie.Need-same-length-8 Inv-loop μ-loop
+same-length-8 c = search needs
 
--- src/main.rt:18:1
-returns-4 : tie.Need-returns-4 Inv-loop μ-loop
-returns-4 c = search needs
+-- src/main.rt:14:1
+returns-2 : tie.Need-returns-2 Inv-loop μ-loop
+returns-2 c = search needs
 
 pub replay-all-spec : {M : Type 1} → statement M
 replay-all-spec =
@@ -151,35 +101,23 @@ replay-all-spec =
     (tie.spec
     Inv-loop
     μ-loop
+    before-lines-requires
     loop-holds
     sub-turns
+    next-line-requires
     same-length
     same-length-2
     same-length-3
     same-length-4
     returns
-    sub-read-full
-    part-read-full-start
-    part-read-full-end
-    read-full-requires
-    sub-if2
+    sub-answer
+    part-answer-start
+    part-answer-end
+    answer-requires
+    loop-less
+    loop-again
     same-length-5
     same-length-6
     same-length-7
     same-length-8
-    returns-2
-    add-end
-    replay-lines-requires
-    same-length-9
-    same-length-10
-    same-length-11
-    same-length-12
-    returns-3
-    keep-requires
-    loop-less
-    loop-again
-    same-length-13
-    same-length-14
-    same-length-15
-    same-length-16
-    returns-4)
+    returns-2)

@@ -1,5 +1,8 @@
 //! Our library beside the crate: what `rt staticlib stazzumpi` writes, called as C calls it.
 
+// The bench calls fewer of them than the comparison.
+#![allow(dead_code)]
+
 extern "C" {
     // A slice is passed as two words, its address and its length.
     #[allow(improper_ctypes)]
@@ -8,6 +11,8 @@ extern "C" {
     fn stazzumpi_parse_sexpr(input: &[u8], nodes: &mut [u64], text: &mut [u8], stack: &mut [u64], told: &mut [u64]) -> u64;
     #[allow(improper_ctypes)]
     fn stazzumpi_check_arena(words: &[u64], text: &[u8], told: &mut [u64]) -> u64;
+    #[allow(improper_ctypes)]
+    fn stazzumpi_check_tables(sorts: &[u64], fields: &[u64], variables: &[u64], functions: &[u64], members: &[u64], names: &[u8]) -> u64;
     #[allow(improper_ctypes)]
     fn stazzumpi_set_logic(logic: &[u8], out: &mut [u8], told: &mut [u64]) -> u64;
     #[allow(improper_ctypes)]
@@ -46,6 +51,10 @@ pub fn parse_sexpr(input: &[u8], nodes: &mut [u64], text: &mut [u8], stack: &mut
 
 pub fn check_arena(words: &[u64], text: &[u8], told: &mut [u64]) -> u64 {
     unsafe { stazzumpi_check_arena(words, text, told) }
+}
+
+pub fn check_tables(sorts: &[u64], fields: &[u64], variables: &[u64], functions: &[u64], members: &[u64], names: &[u8]) -> u64 {
+    unsafe { stazzumpi_check_tables(sorts, fields, variables, functions, members, names) }
 }
 
 /// A list as the script's calls take it: the texts one after the other, and where each ends.

@@ -1,69 +1,49 @@
 use mathlib.Core.Path.{_≡_, refl, sym, _∙_}
-use Prim.Native.Nat.{_-_, _≤_}
-use lib.ListN.{length, drop}
 use native.Mathlib.Omega.{arith}
-use Rattle.arena.specs.Text.{sameText}
-use Rattle.arena.proofs.Texts.{same-lengths, same-more, same-stop, same-end}
+use Rattle.arena.proofs.Texts.{same-lengths, same-none, same-stop}
 use borrow.Author.Needs.{needs}
 use Rattle.arena.proofs.text.same.Statement.{statement}
 use Rattle.arena.proofs.text.same.Tie as tie
 use Rattle.arena.proofs.text.same.Reads as reads
 use Rattle.arena.proofs.text.same.Lts as lts
+use Rattle.arena.proofs.text.all_alike.Reads as all-alike-reads
 
-abbrev Inv-loop : tie.InvT-loop
-Inv-loop a b i₀ i = (i ≤ length a) × (length a ≡ length b) × (sameText a b ≡ sameText (drop i a) (drop i b))
-
-abbrev μ-loop : tie.MeasureT-loop
-μ-loop a b i₀ i = length a - i
-
--- src/text.rt:10:9
-returns : tie.Need-returns Inv-loop μ-loop
+-- src/text.rt:33:9
+returns : tie.Need-returns
 returns c = same-lengths _ _ (c .if1 .taken)
 
--- src/text.rt:13:5
-loop-holds : tie.Need-loop-holds Inv-loop μ-loop
-loop-holds c = (omega arith, omega arith, refl)
+-- src/text.rt:36:9
+returns-2 : tie.Need-returns-2
+returns-2 c = same-none (c .before .before .before .before .args .a .now) (c .before .before .before .before .args .b .now) (omega (arith, c .before .if1 .left)) (c .if2 .taken)
 
--- src/text.rt:14:12
-shared-slice-read-if2 : tie.Need-shared-slice-read-if2 Inv-loop μ-loop
-shared-slice-read-if2 c = search needs
+-- src/text.rt:38:8
+shared-slice-read-if3 : tie.Need-shared-slice-read-if3
+shared-slice-read-if3 c = search needs
 
--- src/text.rt:14:20
-shared-slice-read-if2-2 : tie.Need-shared-slice-read-if2-2 Inv-loop μ-loop
-shared-slice-read-if2-2 c = search needs
+-- src/text.rt:38:16
+shared-slice-read-if3-2 : tie.Need-shared-slice-read-if3-2
+shared-slice-read-if3-2 c = search needs
 
--- src/text.rt:15:13
-returns-2 : tie.Need-returns-2 Inv-loop μ-loop
-returns-2 c = let a = c .before .before .before .before .before .before .args in sym (c .before .before .before .before .loop .inv .2 ∙ same-stop (a .a .now) (a .b .now) (c .before .before .before .before .loop .i) (omega arith) (omega arith) (c .if2 .taken))
+-- src/text.rt:39:9
+returns-3 : tie.Need-returns-3
+returns-3 c = sym (same-stop (c .before .before .before .before .before .before .before .args .a .now) (c .before .before .before .before .before .before .before .args .b .now) 0 (omega (arith, c .before .before .before .if2 .left)) (omega (arith, c .before .before .before .before .if1 .left, c .before .before .before .if2 .left)) (c .if3 .taken))
 
--- src/text.rt:17:9
-add-i : tie.Need-add-i Inv-loop μ-loop
-add-i c = search needs
+-- src/text.rt:41:5
+all-alike-requires : tie.Need-all-alike-requires
+all-alike-requires c κs = omega (arith, c .before .before .before .before .if1 .left)
 
--- src/text.rt:13:5
-loop-less : tie.Need-loop-less Inv-loop μ-loop
-loop-less c = search needs
-
--- src/text.rt:13:5
-loop-again : tie.Need-loop-again Inv-loop μ-loop
-loop-again c = let a = c .before .before .before .before .before .before .args in (omega arith, omega arith, c .before .before .before .before .loop .inv .2 ∙ same-more (a .a .now) (a .b .now) (c .before .before .before .before .loop .i) (omega arith) (omega arith) (c .if2 .left))
-
--- src/text.rt:6:1
-returns-3 : tie.Need-returns-3 Inv-loop μ-loop
-returns-3 c = let a = c .before .before .before .args in sym (c .before .loop .inv .2 ∙ same-end (a .a .now) (a .b .now) (c .before .loop .i) (omega arith) (omega arith))
+-- src/text.rt:29:1
+returns-4 : tie.Need-returns-4
+returns-4 c = search needs
 
 pub same-spec : {M : Type 1} → statement M
 same-spec =
     tie.close
     (tie.spec
-    Inv-loop
-    μ-loop
     returns
-    loop-holds
-    shared-slice-read-if2
-    shared-slice-read-if2-2
     returns-2
-    add-i
-    loop-less
-    loop-again
-    returns-3)
+    shared-slice-read-if3
+    shared-slice-read-if3-2
+    returns-3
+    all-alike-requires
+    returns-4)

@@ -1,0 +1,66 @@
+use mathlib.Core.Path.{_≡_, refl, sym, _∙_}
+use mathlib.Core.Bool.{_&&_}
+use Prim.Native.Nat.{_-_, _≤_}
+use lib.ListN.{length, drop}
+use native.Mathlib.Omega.{arith}
+use Rattle.arena.specs.Text.{sameText}
+use Rattle.arena.proofs.Texts.{same-onward, same-all}
+use borrow.Author.Needs.{needs}
+use Rattle.arena.proofs.text.all_alike.Statement.{statement}
+use Rattle.arena.proofs.text.all_alike.Tie as tie
+use Rattle.arena.proofs.text.all_alike.Reads as reads
+use Rattle.arena.proofs.text.all_alike.Lts as lts
+use Rattle.arena.proofs.text.alike.Reads as alike-reads
+
+abbrev Inv-loop : tie.InvT-loop
+Inv-loop a b all₀ i₀ all i = (i ≤ length a) × (length a ≡ length b) × (sameText a b ≡ (all && sameText (drop i a) (drop i b)))
+
+abbrev μ-loop : tie.MeasureT-loop
+μ-loop a b all₀ i₀ all i = length a - i
+
+-- src/text.rt:21:5
+loop-holds : tie.Need-loop-holds Inv-loop μ-loop
+loop-holds c = (omega arith, c .before .before .pre, refl)
+
+-- src/text.rt:22:26
+shared-slice-read-alike : tie.Need-shared-slice-read-alike Inv-loop μ-loop
+shared-slice-read-alike c = search needs
+
+-- src/text.rt:22:32
+shared-slice-read-alike-2 : tie.Need-shared-slice-read-alike-2 Inv-loop μ-loop
+shared-slice-read-alike-2 c = search needs
+
+-- src/text.rt:22:9
+alike-requires : tie.Need-alike-requires Inv-loop μ-loop
+alike-requires c κs = search needs
+
+-- src/text.rt:23:9
+add-i : tie.Need-add-i Inv-loop μ-loop
+add-i c = search needs
+
+-- src/text.rt:21:5
+loop-less : tie.Need-loop-less Inv-loop μ-loop
+loop-less c = search needs
+
+-- src/text.rt:21:5
+loop-again : tie.Need-loop-again Inv-loop μ-loop
+loop-again c = (omega (arith, c .before .before .before .loop-test .taken), c .before .before .before .before .loop .inv .1, c .before .before .before .before .loop .inv .2 ∙ same-onward (c .before .before .before .before .before .before .before .args .a .now) (c .before .before .before .before .before .before .before .args .b .now) (c .before .before .before .before .loop .i) (c .before .before .before .loop-test .taken) (omega (arith, c .before .before .before .loop-test .taken, c .before .before .before .before .loop .inv .1)) (c .before .before .before .before .loop .all) _ (c .alike .ensures))
+
+-- src/text.rt:15:1
+returns : tie.Need-returns Inv-loop μ-loop
+returns c = same-all (c .before .before .before .before .args .a .now) (c .before .before .before .before .args .b .now) (c .before .loop .i) (c .before .loop .all) (c .before .loop .inv .1) (omega (arith, c .before .loop .inv .0, c .loop-test .left)) (c .before .loop .inv .2)
+
+pub all-alike-spec : {M : Type 1} → statement M
+all-alike-spec =
+    tie.close
+    (tie.spec
+    Inv-loop
+    μ-loop
+    loop-holds
+    shared-slice-read-alike
+    shared-slice-read-alike-2
+    alike-requires
+    add-i
+    loop-less
+    loop-again
+    returns)

@@ -1,0 +1,14 @@
+pub mod Cuts
+pub mod Numerals
+pub mod Rows
+pub mod Forms
+pub mod Fields
+pub mod Spelled
+pub mod Walks
+pub mod SortWalks
+pub mod Clears
+pub mod Parses
+pub mod Stores
+pub mod Back
+pub mod Meanings
+pub mod Readings

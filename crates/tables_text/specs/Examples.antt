@@ -1,0 +1,38 @@
+-- Document 01, "The listing": its sample of the tables' text form, and the lines that it names besides.
+use mathlib.Core.Path.{_≡_, refl}
+use mathlib.Core.List.{List, [], _∷_}
+use Prim.Native.Nat.{ℕ}
+use Prim.Native.String.{String}
+use Rattle.ground.specs.Bytes.{bytes}
+use Rattle.ground.specs.Lists.{joined}
+use Rattle.decimals.specs.Decimal.{decimal, lastDigits, digitCountWithin}
+use Rattle.tables.specs.Sort as Sort
+use Rattle.tables.specs.Sort.{Sort, bool, ext, bitVec, optionOf, setOf, entityOf, recordOf, Tables}
+use Rattle.tables_text.specs.Line.{lines, sortLine, memberLine, written}
+
+abbrev sample : Tables
+sample = record {
+  sorts = bool ∷ bitVec 8 ∷ optionOf 1 ∷ [];
+  variables = record { name = bytes "x"; sort = 2 } ∷ [];
+  functions = record { name = bytes "f"; argument = 1; result = 0 } ∷ [];
+  members = [];
+}
+
+sample-written : written sample ≡ bytes "sort=bool\nsort=bitvec 8\nsort=option 1\nvar=x 2\nfun=f 1 0\n"
+unfolding written lines joined decimal lastDigits digitCountWithin
+sample-written = refl
+
+-- the other lines
+others-written : lines sortLine (setOf 1 ∷ ext Sort.datetime ∷ entityOf (bytes "User") ∷ recordOf (bytes "R") (0 ∷ 12 ∷ []) ∷ [])
+    ≡ bytes "sort=set 1\nsort=datetime\nsort=entity User\nsort=record R 0 12\n"
+unfolding lines joined decimal lastDigits digitCountWithin
+others-written = refl
+
+-- a record without rows has no space after its name, and a text may be empty
+bare-record : sortLine (recordOf (bytes "R") []) ≡ bytes "sort=record R\n"
+unfolding joined
+bare-record = refl
+
+bare-text : memberLine (record { name = bytes "a=b"; entity = 3; text = [] }) ≡ bytes "enum=a=b 3 \n"
+unfolding joined decimal lastDigits digitCountWithin
+bare-text = refl
