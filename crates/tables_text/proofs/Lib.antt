@@ -12,3 +12,4 @@ pub mod Stores
 pub mod Back
 pub mod Meanings
 pub mod Readings
+pub mod Checked
