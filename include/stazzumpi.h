@@ -1,7 +1,7 @@
 /* Stazzumpi: reading what an SMT solver answered, with proof.
  *
- * Link with libstazzumpi.a, which `rt staticlib stazzumpi` writes for x86-64 Linux. It takes no memory of its own, keeps nothing
- * between calls, and may be called from several threads, each with its own buffers.
+ * Link with libstazzumpi.a, which `rt staticlib stazzumpi` writes for x86-64 Linux. It takes no memory of its own but the stack,
+ * keeps nothing between calls, and may be called from several threads, each with its own buffers.
  *
  * Every call answers one 64-bit number: 0 where it accepts, else a refusal, whose number is STAZZUMPI_NUMBER(r) and whose detail is
  * STAZZUMPI_DETAIL(r): the exact need for 10, 11, 12 and 26, else 0. A caller may look at the need, lend that much, and call again.
@@ -56,7 +56,7 @@ enum stazzumpi_refusal {
     STAZZUMPI_NoSortRow = 23,
     STAZZUMPI_TooNested = 24,
     STAZZUMPI_BadTable = 25,
-    STAZZUMPI_OutRoom = 26,   /* detail: how many bytes of output, or words of `told` */
+    STAZZUMPI_OutRoom = 26,   /* detail: how many bytes of output, words of a table, or words of `told` */
     STAZZUMPI_BadArena = 27,
     STAZZUMPI_SetUnionNonLiterals = 28
 };
@@ -112,6 +112,49 @@ uint64_t stazzumpi_check_tables(const uint64_t *sorts, size_t sorts_length, cons
                                 const uint64_t *variables, size_t variables_length, const uint64_t *functions,
                                 size_t functions_length, const uint64_t *members, size_t members_length, const uint8_t *names,
                                 size_t names_length);
+
+/* The text form of tables, a line a row, each ended by 0A, in this order of kinds:
+ *   sort=bool      (or string, decimal, datetime, duration)
+ *   sort=bitvec 8
+ *   sort=option 1  (or set)
+ *   sort=entity NAME
+ *   sort=record NAME ROW ROW ..
+ *   var=NAME ROW
+ *   fun=NAME ROW ROW
+ *   enum=NAME ROW TEXT
+ * Each table's rows, as above, are put at the front of its buffer, and so are the fields. Names and texts are ranges of `text`
+ * itself, which is the `names` of the other calls. Lengths count elements. 5,120 words for each table and 32,768 for the fields are
+ * enough for any text. The call takes some 430,000 bytes of the stack.
+ * Tells 5 words: how many words sorts, fields, variables, functions and members have. Refusals: 26 (told); 9 for more than 65,536
+ * bytes; 25 for a text that is not the text form of tables that break no rule; 26 for the first buffer, in the order of the
+ * arguments, that is too short, with the words that it needs. */
+uint64_t stazzumpi_read_tables(const uint8_t *text, size_t text_length, uint64_t *sorts, size_t sorts_length, uint64_t *fields,
+                               size_t fields_length, uint64_t *variables, size_t variables_length, uint64_t *functions,
+                               size_t functions_length, uint64_t *members, size_t members_length, uint64_t *told,
+                               size_t told_length);
+
+/* The lookups: the row of a name or a sort in one table.
+ * Each tells 2 words: 1 and the number of the first row that has it, counted from 0, or 0 and 0 where no row has it; both are
+ * acceptances. Where stazzumpi_check_tables accepts the tables, no other row has it. Names are compared byte by byte. Any words are
+ * answered, checked or not: a row that is not whole is none, and a name that passes the end of `names` ends there.
+ * Refusal: 26 (told). */
+uint64_t stazzumpi_find_variable(const uint64_t *variables, size_t variables_length, const uint8_t *names, size_t names_length,
+                                 const uint8_t *name, size_t name_length, uint64_t *told, size_t told_length);
+
+uint64_t stazzumpi_find_function(const uint64_t *functions, size_t functions_length, const uint8_t *names, size_t names_length,
+                                 const uint8_t *name, size_t name_length, uint64_t *told, size_t told_length);
+
+uint64_t stazzumpi_find_member(const uint64_t *members, size_t members_length, const uint8_t *names, size_t names_length,
+                               const uint8_t *name, size_t name_length, uint64_t *told, size_t told_length);
+
+/* An entity's or a record's row. */
+uint64_t stazzumpi_find_sort_name(const uint64_t *sorts, size_t sorts_length, const uint8_t *names, size_t names_length,
+                                  const uint8_t *name, size_t name_length, uint64_t *told, size_t told_length);
+
+/* The row of a sort without a name, by words 2 and 3 of such a row: the kind, 1 to 8, and the width of 6 or the row of 7 and 8 (for
+ * 1 to 5 the number is not looked at). Any other kind has no row. */
+uint64_t stazzumpi_find_sort(const uint64_t *sorts, size_t sorts_length, uint64_t kind, uint64_t number, uint64_t *told,
+                             size_t told_length);
 
 /* The lines of a script, each with its line feed at the front of `out`.
  * Each tells 1 word: the length of the line. Refusals: 26 (told); 9 for an input of more than 16,777,216 elements; 25 for ends that

@@ -47,6 +47,76 @@ extern "C" {
         names_length: usize,
     ) -> u64;
 
+    pub fn stazzumpi_read_tables(
+        text: *const u8,
+        text_length: usize,
+        sorts: *mut u64,
+        sorts_length: usize,
+        fields: *mut u64,
+        fields_length: usize,
+        variables: *mut u64,
+        variables_length: usize,
+        functions: *mut u64,
+        functions_length: usize,
+        members: *mut u64,
+        members_length: usize,
+        told: *mut u64,
+        told_length: usize,
+    ) -> u64;
+
+    pub fn stazzumpi_find_variable(
+        variables: *const u64,
+        variables_length: usize,
+        names: *const u8,
+        names_length: usize,
+        name: *const u8,
+        name_length: usize,
+        told: *mut u64,
+        told_length: usize,
+    ) -> u64;
+
+    pub fn stazzumpi_find_function(
+        functions: *const u64,
+        functions_length: usize,
+        names: *const u8,
+        names_length: usize,
+        name: *const u8,
+        name_length: usize,
+        told: *mut u64,
+        told_length: usize,
+    ) -> u64;
+
+    pub fn stazzumpi_find_member(
+        members: *const u64,
+        members_length: usize,
+        names: *const u8,
+        names_length: usize,
+        name: *const u8,
+        name_length: usize,
+        told: *mut u64,
+        told_length: usize,
+    ) -> u64;
+
+    pub fn stazzumpi_find_sort_name(
+        sorts: *const u64,
+        sorts_length: usize,
+        names: *const u8,
+        names_length: usize,
+        name: *const u8,
+        name_length: usize,
+        told: *mut u64,
+        told_length: usize,
+    ) -> u64;
+
+    pub fn stazzumpi_find_sort(
+        sorts: *const u64,
+        sorts_length: usize,
+        kind: u64,
+        number: u64,
+        told: *mut u64,
+        told_length: usize,
+    ) -> u64;
+
     pub fn stazzumpi_set_logic(
         logic: *const u8,
         logic_length: usize,

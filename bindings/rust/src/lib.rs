@@ -1,8 +1,8 @@
 //! Stazzumpi: reading what an SMT solver answered, with proof.
 //!
 //! The library is written in Rattle, and each of its functions is proved to meet its contract for all inputs
-//! (docs/CONTRACTS.md). This crate calls it, over slices that are lent, and takes no memory of its own. A refusal leaves
-//! every lent slice as it was.
+//! (docs/CONTRACTS.md). This crate calls it, over slices that are lent, and takes no memory of its own but the stack. A
+//! refusal leaves every lent slice as it was.
 //!
 //! `libstazzumpi.a` is linked in; it is for x86-64 Linux. The build looks for it in the folder that the environment
 //! variable `STAZZUMPI_LIB_DIR` names, else where `rt staticlib stazzumpi` puts it in this project.
@@ -27,7 +27,6 @@
 
 mod ffi;
 mod refusal;
-pub mod tables;
 
 pub use refusal::Refusal;
 
@@ -69,6 +68,7 @@ macro_rules! call {
 }
 
 pub mod lines;
+pub mod tables;
 
 /// The text of what stands between the quotes of a string literal, at the front of `out`; answers its length.
 ///
@@ -107,7 +107,7 @@ mod tests {
     /// A slice for numbers that is too short is refused before anything is looked at, with its need.
     #[test]
     fn told_one_short() {
-        let (mut out, mut nodes, mut stack, mut told) = ([9; 2], [9; 4], [9; 1], [9; 3]);
+        let (mut out, mut nodes, mut stack, mut told) = ([9; 2], [9; 4], [9; 1], [9; 4]);
         let told = told.as_mut_ptr();
         let (s, o) = (b"\"".as_ptr(), out.as_mut_ptr());
         assert_eq!(unsafe { ffi::stazzumpi_decode_string(s, 1, o, 2, told, 0) }, 26 + 256);
@@ -116,7 +116,12 @@ mod tests {
             26 + 256 * 3
         );
         assert_eq!(unsafe { ffi::stazzumpi_check_arena(nodes.as_ptr(), 4, o, 2, told, 1) }, 26 + 256 * 2);
-        assert_eq!((out, nodes, stack), ([9; 2], [9; 4], [9; 1]));
+        assert_eq!(unsafe { ffi::stazzumpi_find_variable(nodes.as_ptr(), 4, s, 1, s, 1, told, 1) }, 26 + 256 * 2);
+        assert_eq!(unsafe { ffi::stazzumpi_find_sort(nodes.as_ptr(), 4, 1, 0, told, 1) }, 26 + 256 * 2);
+        let mut table = [[9; 1]; 5];
+        let [a, b, c, d, e] = table.each_mut().map(|word| word.as_mut_ptr());
+        assert_eq!(unsafe { ffi::stazzumpi_read_tables(s, 1, a, 1, b, 1, c, 1, d, 1, e, 1, told, 4) }, 26 + 256 * 5);
+        assert_eq!((out, nodes, stack, table), ([9; 2], [9; 4], [9; 1], [[9; 1]; 5]));
     }
 
     /// Words past what is told, and all of them on refusal, stay as they were.

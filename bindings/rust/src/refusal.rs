@@ -48,7 +48,7 @@ refusals! {
     6 TrailingTokens "something follows the first S-expression; give one at a time",
     7 IntegerOverflow "a number does not fit its width, or a width 32 bits; give a smaller one",
     8 ZeroWidthBitVec "a bit vector has the width 0; give at least 1",
-    9 InputTooLong "an input has more than 16,777,216 elements; give a shorter one",
+    9 InputTooLong "an input has more than 16,777,216 elements, or a text of tables more than 65,536 bytes; give a shorter one",
     10 NodeRoom(usize) "lend room for as many nodes, of four words each, and call again",
     11 TextRoom(usize) "lend as many bytes for the text, and call again",
     12 DepthRoom(usize) "lend as many entries of the bracket stack, and call again",
@@ -65,7 +65,7 @@ refusals! {
     23 NoSortRow "a sort has no row; add it to the table of sorts",
     24 TooNested "a value or a sort is more than 1,023 levels deep; ask for a flatter one",
     25 BadTable "a table, or a list of ends, breaks a rule; mend it",
-    26 OutRoom(usize) "lend as many bytes for the output, and call again",
+    26 OutRoom(usize) "lend as many bytes, or words of a table, for the output, and call again",
     27 BadArena "the words and the text are no tree's arena; pass them as the reader left them",
     28 SetUnionNonLiterals "a set is a union of what are no literal sets; ask the solver for plain values",
 }

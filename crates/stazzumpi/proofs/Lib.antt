@@ -1,4 +1,6 @@
 pub mod Codes
+pub mod ByKind
 pub mod Results
 pub mod Needs
 pub mod LineNeeds
+pub mod TableNeeds

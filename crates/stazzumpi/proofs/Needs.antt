@@ -45,7 +45,7 @@ abbrev pub Small : Yield → Type 0
 Small (yields ns) = Unit {0}
 Small (refuses why) = detailOf why < 2 ^ 56
 
-by-cond : {A : Type 0} (b : Bool) (P : A → Type 0) {x y : A} → P x → P y → P (cond b x y)
+pub by-cond : {A : Type 0} (b : Bool) (P : A → Type 0) {x y : A} → P x → P y → P (cond b x y)
 by-cond true P p q = p
 by-cond false P p q = q
 

@@ -1,6 +1,6 @@
 -- What an exported call leaves, by the call that it exports; and that it can leave nothing else.
 -- Assumes nothing.
-use mathlib.Core.Path.{_≡_, refl, sym, ap, ap₂, _∙_, subst}
+use mathlib.Core.Path.{_≡_, refl, ap, ap₂, _∙_, subst}
 use mathlib.Core.List.{List, [], _∷_}
 use Prim.Native.Nat.{ℕ, _%_, _≤_, _<_}
 use native.Mathlib.Omega.{arith}
@@ -14,13 +14,18 @@ use Rattle.lent.specs.declared.Written.{Written}
 use Rattle.lent.specs.Left as lent
 use Rattle.reader.specs.declared.read.Reading.{Reading}
 use Rattle.reader.specs.Read as reader
-use Rattle.arena_check.specs.declared.Checked.{Checked}
-use Rattle.arena_check.specs.Checks.{Checks}
 use Rattle.arena_check.proofs.Answers.{one-check}
 use Rattle.stazzumpi.specs.Code.{codeOf}
-use Rattle.stazzumpi.specs.Exports.{Yield, yields, refuses, Tells, Left, exported, Exports}
-use Rattle.stazzumpi.specs.Yields.{written, writes, read, reads, checked, ChecksOut}
+use Rattle.tables.specs.declared.find.Found.{Found}
+use Rattle.tables.specs.Lookup.{FindsVariable, FindsFunction, FindsMember, FindsNamed}
+use Rattle.tables.proofs.One.{one-variable, one-function, one-member, one-named}
+use Rattle.tables_text.specs.Read.{Buffers}
+use Rattle.tables_text.proofs.Readings.{one-reading}
+use Rattle.stazzumpi.specs.Exports.{Yield, yields, refuses, Tells, Left, exported, Exports, Promises}
+use Rattle.stazzumpi.specs.Kind.{FindsKind}
+use Rattle.stazzumpi.specs.Yields.{written, writes, read, reads, ChecksOut, ReadsOut, foundRow, LooksUp}
 use Rattle.stazzumpi.proofs.Codes.{code-some, code-number}
+use Rattle.stazzumpi.proofs.ByKind.{one-kind}
 
 pub tells-numbers : (yield : Yield) (ns told exit : List ℕ) → yield ≡ yields ns → exit ≡ lent.onto ns told → Tells yield told 0 exit
 tells-numbers yield ns told exit e f = rw e (record { word = refl; tells = f })
@@ -50,14 +55,14 @@ exports-read told buffers left {answer} {r} {exit} {N} {T} {S} h l t =
     exports-call 3 told buffers (reads left) h (subst (λ (a : Reading). Tells (read a) told r exit) (l .answers) t)
     (ap₂ (λ (x : List ℕ) (y : List (List ℕ)). x ∷ y) (l .nodes) (ap₂ (λ (x y : List ℕ). x ∷ y ∷ []) (l .text) (l .stack)))
 
-module _ (ws ts told : List ℕ) where
-  pub checks-short : (r : ℕ) → length told < 2 → r ≡ codeOf (OutRoom 2) → ChecksOut ws ts told r told
-  checks-short r h e = record { short = λ k. record { word = e; tells = refl }; room = λ k. absurd (omega arith) }
+-- every call whose promise is a relation
+module _ {A B : Type 0} (need : ℕ) (yield : A → Yield) (promise : A → B → Type 0) (told : List ℕ) (entry : B) where
+  pub promises-short : (r : ℕ) → length told < need → r ≡ codeOf (OutRoom need) → Promises need yield promise told entry r told entry
+  promises-short r h e = record { short = λ k. (record { word = e; tells = refl }, refl); room = λ k. absurd (omega arith) }
 
-  pub checks-call : {answer : Checked} {r : ℕ} {exit : List ℕ} → 2 ≤ length told → Checks ws ts answer → Tells (checked answer) told r exit
-      → ChecksOut ws ts told r exit
-  checks-call {answer} {r} {exit} h c t =
-      record { short = λ k. absurd (omega arith); room = λ k. record { answer = answer; checks = c; tells = t } }
+  pub promises-call : {answer : A} {r : ℕ} {exit : List ℕ} {buffers : B} → need ≤ length told → promise answer buffers → Tells (yield answer) told r exit
+      → Promises need yield promise told entry r exit buffers
+  promises-call {answer} h p t = record { short = λ k. absurd (omega arith); room = λ k. record { answer = answer; promised = p; tells = t } }
 
 one-telling : {yield : Yield} {told : List ℕ} {r q : ℕ} {d e : List ℕ} → Tells yield told r d → Tells yield told q e → (r ≡ q) × (d ≡ e)
 one-telling x y = (one-result (x .word) (y .word), one-result (x .tells) (y .tells))
@@ -68,15 +73,60 @@ one-export x y =
     let z = one-telling (x .tells) (y .tells) in
     (z .0, z .1, one-result (x .lent) (y .lent))
 
--- the same for the check of 27
-pub one-check-out : {ws ts told : List ℕ} {r q : ℕ} {d e : List ℕ} → ChecksOut ws ts told r d → ChecksOut ws ts told q e → (r ≡ q) × (d ≡ e)
-one-check-out {ws} {ts} {told} {r} {q} {d} {e} x y =
-    by-order (length told) 2 (λ h. one-telling (x .short h) (y .short h))
+-- the same by `Promises`, where the promise itself allows one answer and one content of the buffers
+pub one-promise : {A B : Type 0} {need : ℕ} {yield : A → Yield} {promise : A → B → Type 0} {told : List ℕ} {entry : B} {r q : ℕ} {d e : List ℕ} {x y : B}
+    → ((a b : A) → promise a x → promise b y → (a ≡ b) × (x ≡ y))
+    → Promises need yield promise told entry r d x → Promises need yield promise told entry q e y → (r ≡ q) × (d ≡ e) × (x ≡ y)
+one-promise {A} {B} {need} {yield} {promise} {told} {entry} {r} {q} {d} {e} {x} {y} one p s =
+    by-order (length told) need
     (λ h.
-    let a = x .room h in
-    let b = y .room h in
-    let same : b .answer ≡ a .answer = one-check ws ts (b .answer) (a .answer) (b .checks) (a .checks) in
-    one-telling (a .tells) (subst (λ (k : Checked). Tells (checked k) told q e) same (b .tells)))
+    let z = one-telling (p .short h .0) (s .short h .0) in
+    (z .0, z .1, one-result (p .short h .1) (s .short h .1)))
+    (λ h.
+    let a = p .room h in
+    let b = s .room h in
+    let same = one (a .answer) (b .answer) (a .promised) (b .promised) in
+    let z = one-telling (subst (λ (k : A). Tells (yield k) told r d) (same .0) (a .tells)) (b .tells) in
+    (z .0, z .1, same .1))
+
+pub one-check-out : {ws ts told : List ℕ} {r q : ℕ} {d e : List ℕ} → ChecksOut ws ts told r d → ChecksOut ws ts told q e → (r ≡ q) × (d ≡ e)
+one-check-out {ws} {ts} x y =
+    let z = one-promise (λ a b p q. (one-check ws ts a b p q, refl)) x y in
+    (z .0, z .1)
+
+pub one-tables-read : {text told : List ℕ} {entry x y : Buffers} {r q : ℕ} {d e : List ℕ} → ReadsOut text entry told r d x → ReadsOut text entry told q e y → (r ≡ q) × (d ≡ e) × (x ≡ y)
+one-tables-read {text} {told} {entry} p q = one-promise (λ a b s t. one-reading text entry s t) p q
+
+-- every lookup, by the law of the call that is exported
+pub one-lookup : {finds : Found → Type 0} {told : List ℕ} {r q : ℕ} {d e : List ℕ} → ((a b : Found) → finds a → finds b → a ≡ b)
+    → LooksUp finds told r d → LooksUp finds told q e → (r ≡ q) × (d ≡ e)
+one-lookup one x y =
+    let z = one-promise (λ a b p q. (one a b p q, refl)) x y in
+    (z .0, z .1)
+
+module _ {told : List ℕ} {r q : ℕ} {d e : List ℕ} where
+  module _ (ws names name : List ℕ) where
+    pub one-variable-out : LooksUp (FindsVariable ws names name) told r d → LooksUp (FindsVariable ws names name) told q e → (r ≡ q) × (d ≡ e)
+    one-variable-out x y = one-lookup (one-variable ws names name) x y
+
+    pub one-function-out : LooksUp (FindsFunction ws names name) told r d → LooksUp (FindsFunction ws names name) told q e → (r ≡ q) × (d ≡ e)
+    one-function-out x y = one-lookup (one-function ws names name) x y
+
+    pub one-member-out : LooksUp (FindsMember ws names name) told r d → LooksUp (FindsMember ws names name) told q e → (r ≡ q) × (d ≡ e)
+    one-member-out x y = one-lookup (one-member ws names name) x y
+
+    pub one-named-out : LooksUp (FindsNamed ws names name) told r d → LooksUp (FindsNamed ws names name) told q e → (r ≡ q) × (d ≡ e)
+    one-named-out x y = one-lookup (one-named ws names name) x y
+
+  pub one-sort-out : (sorts : List ℕ) (kind number : ℕ) → LooksUp (FindsKind sorts kind number) told r d → LooksUp (FindsKind sorts kind number) told q e → (r ≡ q) × (d ≡ e)
+  one-sort-out sorts kind number x y = one-lookup (one-kind sorts kind number) x y
+
+-- the numbers of a lookup tell a row from another, and from none
+pub row-told : (a b : Found) → foundRow a ≡ foundRow b → a ≡ b
+row-told (Found.Row i) (Found.Row j) e = let q : i ≡ j = cc in ap Found.Row q
+row-told (Found.Row i) Found.NoRow e = let z : _≡_ {A = ℕ} 1 0 = cc in absurd (omega arith)
+row-told Found.NoRow (Found.Row j) e = let z : _≡_ {A = ℕ} 0 1 = cc in absurd (omega arith)
+row-told Found.NoRow Found.NoRow e = refl
 
 -- what a caller sees: 0 tells an acceptance and its numbers, and any other word a refusal by its number, with nothing told
 pub tells-accepted : (yield : Yield) (told exit : List ℕ) → Tells yield told 0 exit → (ns : List ℕ) × (yield ≡ yields ns) × (exit ≡ lent.onto ns told)

@@ -3,7 +3,7 @@
 use mathlib.Core.Path.{_≡_}
 use mathlib.Core.Bool.{cond}
 use mathlib.Core.List.{List}
-use Prim.Native.Nat.{ℕ}
+use Prim.Native.Nat.{ℕ, _≤_, _<_}
 use lib.Dec.{leb}
 use lib.ListN.{length}
 use Rattle.refusals.specs.declared.Refusal.{Refusal}
@@ -44,3 +44,14 @@ exported need told buffers left =
 pub record Exports (told : List ℕ) (left : Left) (r : ℕ) (exit : List ℕ) (buffers : List (List ℕ)) : Type 0 where
   pub tells : Tells (left .yield) told r exit
   pub lent : buffers ≡ left .lent
+
+-- a call that promises something of its answer and of what its buffers then hold: an answer of which that is so, told
+pub record Answered {A B : Type 0} (yield : A → Yield) (promise : A → B → Type 0) (told : List ℕ) (r : ℕ) (exit : List ℕ) (buffers : B) : Type 0 where
+  pub answer : A
+  pub promised : promise answer buffers
+  pub tells : Tells (yield answer) told r exit
+
+-- where there is room for its numbers; else 26, as above
+pub record Promises {A B : Type 0} (need : ℕ) (yield : A → Yield) (promise : A → B → Type 0) (told : List ℕ) (entry : B) (r : ℕ) (exit : List ℕ) (buffers : B) : Type 0 where
+  pub short : length told < need → Tells (refuses (OutRoom need)) told r exit × (buffers ≡ entry)
+  pub room : need ≤ length told → Answered yield promise told r exit buffers

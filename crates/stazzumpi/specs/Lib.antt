@@ -1,3 +1,4 @@
 pub mod Code
 pub mod Exports
+pub mod Kind
 pub mod Yields

@@ -1,8 +1,6 @@
 -- Document 01, "Numbers given back": the numbers that each kind of answer yields.
 use mathlib.Core.List.{List, [], _∷_}
-use Prim.Native.Nat.{ℕ, _≤_, _<_}
-use lib.ListN.{length}
-use Rattle.refusals.specs.declared.Refusal.the-variants.{OutRoom}
+use Prim.Native.Nat.{ℕ}
 use Rattle.lent.specs.declared.Written.{Written}
 use Rattle.lent.specs.declared.Written.the-variants.{Length, Refused}
 use Rattle.lent.specs.Left as lent
@@ -11,7 +9,10 @@ use Rattle.reader.specs.Read as reader
 use Rattle.arena_check.specs.declared.Checked.{Checked}
 use Rattle.arena_check.specs.Checks.{Checks}
 use Rattle.tables.specs.declared.check.Checked as Tables
-use Rattle.stazzumpi.specs.Exports.{Yield, yields, refuses, Tells, Left, exported, Exports}
+use Rattle.tables.specs.declared.find.Found.{Found}
+use Rattle.tables_text.specs.declared.read.TablesRead.{TablesRead}
+use Rattle.tables_text.specs.Read.{Buffers, Reads}
+use Rattle.stazzumpi.specs.Exports.{Yield, yields, refuses, Left, exported, Exports, Promises}
 
 -- the length of what was written
 abbrev pub written : Written → Yield
@@ -38,18 +39,29 @@ abbrev pub checked : Checked → Yield
 checked (Checked.Tree nodes text) = yields (nodes ∷ text ∷ [])
 checked (Checked.Refused why) = refuses why
 
--- the answer of the check of 27, of which there is one
-pub record ChecksTold (ws ts told : List ℕ) (r : ℕ) (exit : List ℕ) : Type 0 where
-  pub answer : Checked
-  pub checks : Checks ws ts answer
-  pub tells : Tells (checked answer) told r exit
-
--- told where there is room for its two numbers, else 26
-pub record ChecksOut (ws ts told : List ℕ) (r : ℕ) (exit : List ℕ) : Type 0 where
-  pub short : length told < 2 → Tells (refuses (OutRoom 2)) told r exit
-  pub room : 2 ≤ length told → ChecksTold ws ts told r exit
+-- the check of 27, exported; of what is lent to it only the slice for numbers may be written
+abbrev pub ChecksOut : List ℕ → List ℕ → List ℕ → ℕ → List ℕ → Type 0
+ChecksOut ws ts told r exit = Promises {B = Unit {0}} 2 checked (λ answer _. Checks ws ts answer) told tt r exit tt
 
 -- tables that pass yield no number
 abbrev pub passed : Tables.Checked → Yield
 passed Tables.Checked.Passed = yields []
 passed (Tables.Checked.Refused why) = refuses why
+
+-- how many words each table has, the list of fields after the sorts
+abbrev pub tablesRead : TablesRead → Yield
+tablesRead (TablesRead.Read sorts fields variables functions members) = yields (sorts ∷ fields ∷ variables ∷ functions ∷ members ∷ [])
+tablesRead (TablesRead.Refused why) = refuses why
+
+-- the reading of the tables' text, exported
+abbrev pub ReadsOut : List ℕ → Buffers → List ℕ → ℕ → List ℕ → Buffers → Type 0
+ReadsOut text entry told r toldAfter exit = Promises 5 tablesRead (Reads text entry) told entry r toldAfter exit
+
+-- 1 and the row that was found, or 0 and 0 where there is none: both are acceptances
+abbrev pub foundRow : Found → Yield
+foundRow (Found.Row row) = yields (1 ∷ row ∷ [])
+foundRow Found.NoRow = yields (0 ∷ 0 ∷ [])
+
+-- a lookup, exported, by what the call that it exports finds
+abbrev pub LooksUp : (Found → Type 0) → List ℕ → ℕ → List ℕ → Type 0
+LooksUp finds told r exit = Promises {B = Unit {0}} 2 foundRow (λ answer _. finds answer) told tt r exit tt

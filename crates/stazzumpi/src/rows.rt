@@ -1,10 +1,15 @@
-// The check of 25, exported.
+// The check of 25 and the reading of the tables' text, exported.
 use crate::answer::code;
+use crate::answer::tell;
+use refusals::Refusal;
 use tables::Checked;
+use tables_text::TablesRead;
 ghost use mathlib.Core.Path.{_≡_};
+ghost use Prim.Native.Nat.{_≤_};
+ghost use lib.ListN.{length};
 ghost use Rattle.tables.specs.Check.{checked};
-ghost use Rattle.stazzumpi.specs.Exports.{wordOf};
-ghost use Rattle.stazzumpi.specs.Yields.{passed};
+ghost use Rattle.stazzumpi.specs.Exports.{wordOf, Tells};
+ghost use Rattle.stazzumpi.specs.Yields.{passed, tablesRead, ReadsOut};
 
 // Tells nothing but that the tables break no rule.
 #[no_mangle]
@@ -23,4 +28,52 @@ pub extern "C" fn stazzumpi_check_tables(
         Checked::Passed => 0,
         Checked::Refused(why) => code(why),
     }
+}
+
+fn tell_tables(answer: TablesRead, told: &mut [u64]) -> u64
+    requires { ⌜ 5 ≤ length (now told) ⌝ }
+    ensures { λ r. ⌜ Tells (tablesRead answer) (now (told .entry)) r (now (told .exit)) ⌝ }
+{
+    match answer {
+        TablesRead::Read {
+            sorts,
+            fields,
+            variables,
+            functions,
+            members,
+        } => {
+            tell(
+                &[
+                    sorts as u64,
+                    fields as u64,
+                    variables as u64,
+                    functions as u64,
+                    members as u64,
+                ],
+                told,
+            );
+            0
+        }
+        TablesRead::Refused(why) => code(why),
+    }
+}
+
+// Tells how many words of each buffer the tables took.
+#[no_mangle]
+pub extern "C" fn stazzumpi_read_tables(
+    text: &[u8],
+    sorts: &mut [u64],
+    fields: &mut [u64],
+    variables: &mut [u64],
+    functions: &mut [u64],
+    members: &mut [u64],
+    told: &mut [u64],
+) -> u64
+    ensures { λ r. ⌜ ReadsOut (now (text .entry)) (record { sorts = now (sorts .entry); fields = now (fields .entry); variables = now (variables .entry); functions = now (functions .entry); members = now (members .entry) }) (now (told .entry)) r (now (told .exit)) (record { sorts = now (sorts .exit); fields = now (fields .exit); variables = now (variables .exit); functions = now (functions .exit); members = now (members .exit) }) ⌝ }
+{
+    if told.len() < 5 {
+        return code(Refusal::OutRoom(5));
+    }
+    let answer = tables_text::read_tables(text, sorts, fields, variables, functions, members);
+    tell_tables(answer, told)
 }

@@ -9,27 +9,27 @@ use Rattle.stazzumpi.proofs.rows.stazzumpi_check_tables.Lts as lts
 use Rattle.stazzumpi.proofs.answer.code.Reads as code-reads
 use Rattle.tables.proofs.check_tables.Reads as check-tables-reads
 
--- src/rows.rt:21:9
+-- src/rows.rt:26:9
 check-tables-requires : tie.Need-check-tables-requires
 check-tables-requires c κs = search needs
 
--- src/rows.rt:23:28
+-- src/rows.rt:28:28
 enum-told : tie.Need-enum-told
 enum-told c = search needs
 
--- src/rows.rt:24:26
+-- src/rows.rt:29:26
 enum-known-answer : tie.Need-enum-known-answer
 enum-known-answer c = search needs
 
--- src/rows.rt:24:34
+-- src/rows.rt:29:34
 code-requires : tie.Need-code-requires
 code-requires c κs = search needs
 
--- src/rows.rt:10:1
+-- src/rows.rt:15:1
 returns : tie.Need-returns
 returns c = ap (λ a. wordOf (passed a)) (sym (c .enum-told .given .1) ∙ c .before .before .check-tables .ensures)
 
--- src/rows.rt:10:1
+-- src/rows.rt:15:1
 returns-2 : tie.Need-returns-2
 returns-2 c = c .code .ensures ∙ ap (λ a. wordOf (passed a)) (sym (c .before .before .answer .given .1) ∙ c .before .before .before .before .check-tables .ensures)
 

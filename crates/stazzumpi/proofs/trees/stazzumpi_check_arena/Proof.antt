@@ -1,4 +1,4 @@
-use Rattle.stazzumpi.proofs.Results.{checks-short, checks-call}
+use Rattle.stazzumpi.proofs.Results.{promises-short, promises-call}
 use borrow.Author.Needs.{needs}
 use Rattle.stazzumpi.proofs.trees.stazzumpi_check_arena.Statement.{statement}
 use Rattle.stazzumpi.proofs.trees.stazzumpi_check_arena.Tie as tie
@@ -14,7 +14,7 @@ code-requires c κs = search needs
 
 -- src/trees.rt:64:9
 returns : tie.Need-returns
-returns c = checks-short _ _ _ _ (c .before .if1 .taken) (c .code .ensures)
+returns c = promises-short _ _ _ _ _ _ (c .before .if1 .taken) (c .code .ensures)
 
 -- src/trees.rt:66:9
 check-arena-requires : tie.Need-check-arena-requires
@@ -30,7 +30,7 @@ same-length c = search needs
 
 -- src/trees.rt:59:1
 returns-2 : tie.Need-returns-2
-returns-2 c = checks-call _ _ _ (c .before .before .before .before .before .if1 .left) (c .before .before .before .before .check-arena .ensures) (c .before .before .tell-checked .ensures)
+returns-2 c = promises-call _ _ _ _ _ (c .before .before .before .before .before .if1 .left) (c .before .before .before .before .check-arena .ensures) (c .before .before .tell-checked .ensures)
 
 pub stazzumpi-check-arena-spec : {M : Type 1} → statement M
 stazzumpi-check-arena-spec =

@@ -1,0 +1,44 @@
+use Rattle.stazzumpi.proofs.Results.{promises-short, promises-call}
+use borrow.Author.Needs.{needs}
+use Rattle.stazzumpi.proofs.lookups.stazzumpi_find_function.Statement.{statement}
+use Rattle.stazzumpi.proofs.lookups.stazzumpi_find_function.Tie as tie
+use Rattle.stazzumpi.proofs.lookups.stazzumpi_find_function.Reads as reads
+use Rattle.stazzumpi.proofs.lookups.stazzumpi_find_function.Lts as lts
+use Rattle.stazzumpi.proofs.answer.code.Reads as code-reads
+use Rattle.stazzumpi.proofs.lookups.tell_found.Reads as tell-found-reads
+use Rattle.tables.proofs.find_function.Reads as find-function-reads
+
+-- src/lookups.rt:56:9
+code-requires : tie.Need-code-requires
+code-requires c κs = search needs
+
+-- src/lookups.rt:56:9
+returns : tie.Need-returns
+returns c = promises-short _ _ _ _ _ _ (c .before .if1 .taken) (c .code .ensures)
+
+-- src/lookups.rt:58:9
+find-function-requires : tie.Need-find-function-requires
+find-function-requires c κs = search needs
+
+-- src/lookups.rt:59:5
+tell-found-requires : tie.Need-tell-found-requires
+tell-found-requires c κs = search needs
+
+-- src/lookups.rt:46:1
+same-length : tie.Need-same-length
+same-length c = search needs
+
+-- src/lookups.rt:46:1
+returns-2 : tie.Need-returns-2
+returns-2 c = promises-call _ _ _ _ _ (c .before .before .before .before .before .if1 .left) (c .before .before .before .before .find-function .ensures) (c .before .before .tell-found .ensures)
+
+pub stazzumpi-find-function-spec : {M : Type 1} → statement M
+stazzumpi-find-function-spec =
+    tie.close
+    (tie.spec
+    code-requires
+    returns
+    find-function-requires
+    tell-found-requires
+    same-length
+    returns-2)
