@@ -5,11 +5,16 @@
 test:
 	bash .ci/run
 
-# What C and Rust link, target/staticlib/libstazzumpi.a, for x86-64. Needs the toolchain.
+# What C and Rust link, target/staticlib/libstazzumpi.a, for this machine. Needs the toolchain, which compiles for x86-64 alone;
+# elsewhere tools/native.sh has the same module compiled for the machine. NATIVE=1 goes that way on x86-64 too.
 library:
+ifeq ($(shell uname -m)$(NATIVE),x86_64)
 	rt staticlib stazzumpi
+else
+	sh tools/native.sh
+endif
 
-# Builds the example in C and shows it on two real replies. Needs the toolchain and a C compiler, on x86-64.
+# Builds the example in C and shows it on two real replies. Needs the toolchain and a C compiler.
 CFLAGS ?= -O2
 example: library
 	mkdir -p target/example
@@ -17,7 +22,7 @@ example: library
 	target/example/readtree vectors/replies/bools/cvc5-1.0.3.model.txt
 	target/example/readtree vectors/replies/option-single/z3-4.8.12.model.txt
 
-# Tests the Rust binding over the library. Needs the toolchain and cargo, on x86-64.
+# Tests the Rust binding over the library. Needs the toolchain and cargo.
 bindings: library
 	cd bindings/rust && STAZZUMPI_LIB_DIR="$(abspath target/staticlib)" cargo test --offline --target-dir "$(abspath target/bindings)"
 
@@ -34,7 +39,7 @@ confirm: oracle
 	python3 oracle/confirm.py
 
 # Sets our library beside the Rust, in one process, on millions of inputs, and the Rust's answers beside a second reading of
-# document 01. SEED may be given; TIMES, for so many times the inputs; COUNT, for so many models. On x86-64.
+# document 01. SEED may be given; TIMES, for so many times the inputs; COUNT, for so many models.
 SEED ?= 2026
 TIMES ?= 1
 COUNT ?= 20000
@@ -44,7 +49,8 @@ compare: oracle library
 	find vectors/replies -name '*.model.txt' | sort | target/oracle/ours/release/oracle compare $(STACK) $(SEED) $(TIMES)
 	python3 oracle/compare.py $(SEED) $(COUNT)
 
-# Times our reader beside the crate's on the real replies, in one run. Needs the toolchain and the oracle's packages, on x86-64.
+# Times our library, the crate and a plain C reader on the same inputs, in one run, and writes docs/BENCH.md and docs/bench.svg.
+# QUICK=1 for a short run that prints its tables and writes nothing. Needs the toolchain and what oracle/README.md installs.
 bench: library
 	$(MAKE) -C oracle bench
-	find vectors/replies -name '*.model.txt' | sort | target/oracle/bench/release/oracle bench
+	python3 oracle/bench/run.py $(if $(QUICK),quick)

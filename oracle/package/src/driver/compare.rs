@@ -170,7 +170,7 @@ fn any_line(random: &mut Random) -> Line {
 }
 
 /// So many of what a rule makes, with a line now and then to say how far it is.
-fn many<T>(what: &str, count: usize, mut make: impl FnMut() -> T, mut check: impl FnMut(&T) -> Result<(), String>) -> Result<(), String> {
+fn many<T>(what: &str, count: usize, mut make: impl FnMut() -> T, mut check: impl FnMut(&T) -> Result<(), String>) -> Result<usize, String> {
     for done in 0..count {
         if done % 250_000 == 0 && 0 < done {
             eprintln!("{what}: {done} of {count}");
@@ -178,7 +178,7 @@ fn many<T>(what: &str, count: usize, mut make: impl FnMut() -> T, mut check: imp
         check(&make())?;
     }
     println!("{what}: {count}, no difference");
-    Ok(())
+    Ok(count)
 }
 
 /// The limit of 9 met exactly, and passed by one byte; and brackets nested deep.
@@ -210,22 +210,24 @@ pub fn run() -> Result<(), Fault> {
     }
     let mut random = Random::new(seed);
     println!("seed={seed} times={times} replies={}", replies.len());
-    let count = all(STRING_LETTERS, 5, |bytes| told(bytes, string))?;
-    println!("strings, all of up to 5 of {} letters: {count}, no difference", STRING_LETTERS.len());
-    many("strings, random", 900_000 * times, || { let size = random.below(12); random.pieces(STRING_PIECES, size) }, |bytes| told(bytes, string))?;
-    let count = all(READING_LETTERS, 5, |bytes| told(bytes, reading))?;
-    println!("readings, all of up to 5 of {} letters: {count}, no difference", READING_LETTERS.len());
-    many("readings, random pieces", 500_000 * times, || { let size = random.below(16); random.pieces(READING_PIECES, size) }, |bytes| told(bytes, reading))?;
-    many("readings, runs at boundaries", 3_000 * times, || runs(&mut random), |bytes| told(bytes, reading))?;
+    let mut strings = all(STRING_LETTERS, 5, |bytes| told(bytes, string))?;
+    println!("strings, all of up to 5 of {} letters: {strings}, no difference", STRING_LETTERS.len());
+    strings += many("strings, random", 900_000 * times, || { let size = random.below(12); random.pieces(STRING_PIECES, size) }, |bytes| told(bytes, string))?;
+    let mut readings = all(READING_LETTERS, 5, |bytes| told(bytes, reading))?;
+    println!("readings, all of up to 5 of {} letters: {readings}, no difference", READING_LETTERS.len());
+    readings += many("readings, random pieces", 500_000 * times, || { let size = random.below(16); random.pieces(READING_PIECES, size) }, |bytes| told(bytes, reading))?;
+    readings += many("readings, runs at boundaries", 3_000 * times, || runs(&mut random), |bytes| told(bytes, reading))?;
     for reply in &replies {
         told(reply, reading)?;
     }
+    readings += replies.len();
     println!("readings, the real replies: {}, no difference", replies.len());
     let small: Vec<&Vec<u8>> = replies.iter().filter(|reply| reply.len() < 4_000).collect();
     if !small.is_empty() {
-        many("readings, damaged replies", 40_000 * times, || { let of = *random.one(&small); damaged(&mut random, of, READING_LETTERS) }, |bytes| told(bytes, reading))?;
+        readings += many("readings, damaged replies", 40_000 * times, || { let of = *random.one(&small); damaged(&mut random, of, READING_LETTERS) }, |bytes| told(bytes, reading))?;
     }
     edges()?;
-    many("script lines", 120_000 * times, || any_line(&mut random), |one| line(one).map_err(|fault| format!("{fault}\nline: {one:?}")))?;
+    let lines = many("script lines", 120_000 * times, || any_line(&mut random), |one| line(one).map_err(|fault| format!("{fault}\nline: {one:?}")))?;
+    println!("in all: {strings} strings, {readings} readings, {lines} script lines, no difference");
     Ok(())
 }

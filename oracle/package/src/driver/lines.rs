@@ -94,28 +94,34 @@ fn read(field: &str) -> Result<String, Fault> {
 }
 
 /// The bytes that the crate writes.
-#[cfg(feature = "ours")]
+#[cfg(any(feature = "ours", feature = "bench"))]
 pub fn written(line: &super::ours::Line) -> Result<Vec<u8>, String> {
-    use super::ours::Line;
     let mut out = Vec::new();
-    ask(|| match line {
-        Line::SetLogic(logic) => wait(out.set_logic(logic)),
-        Line::SetOption(option, value) => wait(out.set_option(option, value)),
-        Line::Comment(text) => wait(out.comment(text)),
-        Line::Assert(term) => wait(out.assert(term)),
+    ask(|| wait(emit(&mut out, line)))?;
+    Ok(out)
+}
+
+/// Has the crate write a line behind what is there.
+#[cfg(any(feature = "ours", feature = "bench"))]
+pub async fn emit(out: &mut Vec<u8>, line: &super::ours::Line) -> tokio::io::Result<()> {
+    use super::ours::Line;
+    match line {
+        Line::SetLogic(logic) => out.set_logic(logic).await,
+        Line::SetOption(option, value) => out.set_option(option, value).await,
+        Line::Comment(text) => out.comment(text).await,
+        Line::Assert(term) => out.assert(term).await,
         Line::DefineFun(name, pairs, sort, body) => {
             let pairs = pairs.chunks(2).map(|pair| (pair[0].as_str(), pair[1].as_str()));
-            wait(out.define_fun(name, pairs, sort, body));
+            out.define_fun(name, pairs, sort, body).await
         }
-        Line::DeclareConst(name, sort) => wait(out.declare_const(name, sort)),
-        Line::DeclareFun(name, sorts, sort) => wait(out.declare_fun(name, sorts.iter().map(String::as_str), sort)),
+        Line::DeclareConst(name, sort) => out.declare_const(name, sort).await,
+        Line::DeclareFun(name, sorts, sort) => out.declare_fun(name, sorts.iter().map(String::as_str), sort).await,
         Line::DeclareDatatype(name, parameters, constructors) => {
-            wait(out.declare_datatype(name, parameters.iter().map(String::as_str), constructors.iter().map(String::as_str)));
+            out.declare_datatype(name, parameters.iter().map(String::as_str), constructors.iter().map(String::as_str)).await
         }
-        Line::CheckSat => wait(out.check_sat()),
-        Line::GetModel => wait(out.get_model()),
-        Line::Reset => wait(out.reset()),
-        Line::Exit => wait(out.exit()),
-    })?;
-    Ok(out)
+        Line::CheckSat => out.check_sat().await,
+        Line::GetModel => out.get_model().await,
+        Line::Reset => out.reset().await,
+        Line::Exit => out.exit().await,
+    }
 }

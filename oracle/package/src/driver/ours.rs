@@ -91,24 +91,35 @@ pub enum Line {
     Exit,
 }
 
+/// The lists among a line's parts, as the calls take them.
+pub fn lists(line: &Line) -> [Joined; 2] {
+    match line {
+        Line::DefineFun(_, list, ..) | Line::DeclareFun(_, list, _) => [Joined::of(list), Joined::default()],
+        Line::DeclareDatatype(_, parameters, constructors) => [Joined::of(parameters), Joined::of(constructors)],
+        _ => [Joined::default(), Joined::default()],
+    }
+}
+
 pub fn write(line: &Line, out: &mut [u8], told: &mut [u64]) -> u64 {
+    write_lists(line, &lists(line), out, told)
+}
+
+/// Writes a line whose lists are joined already.
+pub fn write_lists(line: &Line, [first, second]: &[Joined; 2], out: &mut [u8], told: &mut [u64]) -> u64 {
     unsafe {
         match line {
             Line::SetLogic(logic) => stazzumpi_set_logic(logic.as_bytes(), out, told),
             Line::SetOption(option, value) => stazzumpi_set_option(option.as_bytes(), value.as_bytes(), out, told),
             Line::Comment(text) => stazzumpi_comment(text.as_bytes(), out, told),
             Line::Assert(term) => stazzumpi_assert(term.as_bytes(), out, told),
-            Line::DefineFun(name, pairs, sort, body) => {
-                let list = Joined::of(pairs);
-                stazzumpi_define_fun(name.as_bytes(), &list.string, &list.ends, sort.as_bytes(), body.as_bytes(), out, told)
+            Line::DefineFun(name, _, sort, body) => {
+                stazzumpi_define_fun(name.as_bytes(), &first.string, &first.ends, sort.as_bytes(), body.as_bytes(), out, told)
             }
             Line::DeclareConst(name, sort) => stazzumpi_declare_const(name.as_bytes(), sort.as_bytes(), out, told),
-            Line::DeclareFun(name, sorts, sort) => {
-                let list = Joined::of(sorts);
-                stazzumpi_declare_fun(name.as_bytes(), &list.string, &list.ends, sort.as_bytes(), out, told)
+            Line::DeclareFun(name, _, sort) => {
+                stazzumpi_declare_fun(name.as_bytes(), &first.string, &first.ends, sort.as_bytes(), out, told)
             }
-            Line::DeclareDatatype(name, parameters, constructors) => {
-                let (first, second) = (Joined::of(parameters), Joined::of(constructors));
+            Line::DeclareDatatype(name, ..) => {
                 stazzumpi_declare_datatype(name.as_bytes(), &first.string, &first.ends, &second.string, &second.ends, out, told)
             }
             Line::CheckSat => stazzumpi_check_sat(out, told),

@@ -44,9 +44,14 @@ impl SmolStr {
     }
 }
 
-/// Gathers a text character by character.
+/// Gathers a text character by character; as in the real crate, a short one without an allocation.
 #[derive(Default)]
-pub struct SmolStrBuilder(String);
+pub struct SmolStrBuilder {
+    bytes: [u8; INLINE],
+    len: usize,
+    /// All of the text, once it is longer.
+    long: Option<String>,
+}
 
 impl SmolStrBuilder {
     pub fn new() -> Self {
@@ -54,11 +59,26 @@ impl SmolStrBuilder {
     }
 
     pub fn push(&mut self, c: char) {
-        self.0.push(c);
+        if let Some(long) = &mut self.long {
+            return long.push(c);
+        }
+        match self.bytes.get_mut(self.len..self.len + c.len_utf8()) {
+            Some(room) => self.len += c.encode_utf8(room).len(),
+            None => {
+                let mut long = self.short().to_string();
+                long.push(c);
+                self.long = Some(long);
+            }
+        }
+    }
+
+    fn short(&self) -> &str {
+        // SAFETY: `push` alone fills it, with whole characters.
+        unsafe { std::str::from_utf8_unchecked(&self.bytes[..self.len]) }
     }
 
     pub fn finish(self) -> SmolStr {
-        SmolStr::new(self.0)
+        SmolStr::new(self.long.as_deref().unwrap_or(self.short()))
     }
 }
 
