@@ -4,6 +4,7 @@ pub mod Orders
 pub mod Powers
 pub mod Worths
 pub mod Runs
+pub mod WordRuns
 pub mod Extends
 pub mod Signs
 pub mod LowWords
