@@ -1,7 +1,7 @@
 /* Stazzumpi: reading what an SMT solver answered, with proof.
  *
- * Link with libstazzumpi.a, which `rt staticlib stazzumpi` writes for x86-64 Linux. It takes no memory of its own but the stack,
- * keeps nothing between calls, and may be called from several threads, each with its own buffers.
+ * Link with libstazzumpi.a, which `make library` writes for 64-bit Linux on x86-64 or Arm. It takes no memory of its own but the
+ * stack, keeps nothing between calls, and may be called from several threads, each with its own buffers.
  *
  * Every call answers one 64-bit number: 0 where it accepts, else a refusal, whose number is STAZZUMPI_NUMBER(r) and whose detail is
  * STAZZUMPI_DETAIL(r): the exact need for 10, 11, 12 and 26, else 0. A caller may look at the need, lend that much, and call again.

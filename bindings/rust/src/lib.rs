@@ -4,8 +4,8 @@
 //! (docs/CONTRACTS.md). This crate calls it, over slices that are lent, and takes no memory of its own but the stack. A
 //! refusal leaves every lent slice as it was.
 //!
-//! `libstazzumpi.a` is linked in; it is for x86-64 Linux. The build looks for it in the folder that the environment
-//! variable `STAZZUMPI_LIB_DIR` names, else where `rt staticlib stazzumpi` puts it in this project.
+//! `libstazzumpi.a` is linked in, which `make library` writes for 64-bit Linux on x86-64 or Arm. The build looks for it in the
+//! folder that the environment variable `STAZZUMPI_LIB_DIR` names, else where that command puts it in this project.
 //!
 //! ```
 //! use stazzumpi::{parse_sexpr, Refusal};

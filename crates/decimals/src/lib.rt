@@ -22,7 +22,7 @@ fn magnitude(number: i64) -> u64
     }
 }
 
-fn digit_count(number: u64) -> usize
+pub fn digit_count(number: u64) -> usize
     ensures { λ r. ⌜ r ≡ digitCount number ⌝ }
 {
     let mut count: usize = 1;
@@ -57,6 +57,17 @@ pub fn write_natural(number: u64, out: &mut [u8]) -> Written
     }
     put_digits(number, out, 0, need);
     Written::Length(need)
+}
+
+// How long the text of a signed number is.
+pub fn signed_length(number: i64) -> usize
+    ensures { λ r. ⌜ r ≡ length (signedDecimal number) ⌝ }
+{
+    let digits = digit_count(magnitude(number));
+    if number < 0 {
+        return digits + 1;
+    }
+    digits
 }
 
 // A minus sign and a number.

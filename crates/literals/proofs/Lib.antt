@@ -1,0 +1,11 @@
+pub mod Needs
+pub mod Answers
+pub mod Unions
+pub mod Forms
+pub mod Words
+pub mod Numbers
+pub mod Made
+pub mod Plans
+pub mod Fields
+pub mod Walks
+pub mod Decodes

@@ -1,0 +1,5 @@
+pub mod Literal
+pub mod Answer
+pub mod Parts
+pub mod Plan
+pub mod Field

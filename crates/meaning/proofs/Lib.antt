@@ -1,0 +1,12 @@
+pub mod Results
+pub mod Views
+pub mod Finds
+pub mod Sorts
+pub mod Insides
+pub mod Readings
+pub mod Sound
+pub mod Members
+pub mod Fits
+pub mod Rows
+pub mod Deeper
+pub mod Sizes

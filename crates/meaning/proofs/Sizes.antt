@@ -1,0 +1,119 @@
+-- How long the text of a literal can be: 131,200 bytes a node, which holds a member's longest text, and two for each byte of the tree's.
+-- Assumes nothing.
+use mathlib.Core.Path.{_≡_, subst}
+use mathlib.Core.Bool.{true}
+use mathlib.Core.List.{List}
+use mathlib.Core.Option.{Option, some}
+use Prim.Native.Nat.{ℕ, zero, suc, _+_, _*_, _%_, _^_, _≤_, _<_}
+use native.Mathlib.Omega.{arith}
+use lib.IntN.{ℤ, pos, negsuc}
+use lib.ListN.{length, length-append}
+use Rattle.ground.specs.Bytes.{bytes}
+use Rattle.words.specs.Extension.{signed}
+use Rattle.decimals.specs.Decimal.{signedDecimal}
+use Rattle.decimals.proofs.Counts.{count-most}
+use Rattle.arena.specs.Tree.{Tree, Trees, symbol, string as quoted, app, nil, cons, nodes, nodesOf, text as treeText, texts as treeTexts, mostNodes, mostText}
+use Rattle.tables.specs.Sort.{Ext, Tables}
+use Rattle.tables.specs.Rules.{lawful}
+use Rattle.tables.proofs.Lawful.{Lawful, lawful-parts}
+use Rattle.sorts.specs.Result.{ok}
+use Rattle.values.specs.Value.{Value, Values, vExt, vBits, vSet, vEntity, vNil, vCons, union}
+use Rattle.values.specs.Text.{text}
+use Rattle.values.proofs.Lengths.{length-natural, length-negative, size, size-union, length-true, length-false, length-string, length-ext, length-bits, length-none, length-some, length-set, length-entity, length-record}
+use Rattle.literals.specs.Literal.{Lit, read}
+use Rattle.meaning.proofs.Results.{refuses}
+use Rattle.meaning.proofs.Views.{call2}
+use Rattle.meaning.proofs.Readings.{FieldReadings, f-nil, f-cons, Reading, r-bits, r-string, r-true, r-false, r-member, r-none, r-asSome, r-some, r-empty, r-singleton, r-union, r-extension, r-indexed, r-entity, r-record, reading}
+use Rattle.meaning.proofs.Members.{member-kept}
+use Rattle.meaning.proofs.Fits.{width-most}
+
+abbrev room : Tree → ℕ
+room t = 131200 * nodes t + 2 * length (treeText t)
+
+abbrev rooms : Trees → ℕ
+rooms us = 131200 * nodesOf us + 2 * length (treeTexts us)
+
+-- an application has the room of its parts, and a node's more
+room-cons : (u : Tree) (us : Trees) → rooms (cons u us) ≡ room u + rooms us
+room-cons u us = let h = length-append (treeText u) (treeTexts us) in omega arith
+
+room-second : (h v : Tree) → 131200 + room v ≤ room (app (cons h (cons v nil)))
+room-second h v = let p = room-cons h (cons v nil) in let q = room-cons v nil in omega arith
+
+room-third : (h v w : Tree) → 131200 + room v + room w ≤ room (app (cons h (cons v (cons w nil))))
+room-third h v w = let p = room-cons h (cons v (cons w nil)) in let q = room-cons v (cons w nil) in let r = room-cons w nil in omega arith
+
+room-node : (t : Tree) → 131200 ≤ room t
+room-node (Tree.bitVec w n) = omega arith
+room-node (Tree.numeral n) = omega arith
+room-node (Tree.string s) = omega arith
+room-node (Tree.symbol s) = omega arith
+room-node (Tree.app us) = omega arith
+
+bits-short : (w n : ℕ) → w ≤ 128 → length (text (vBits w n)) < 131200
+bits-short w n h = let k = count-most w in let e = length-bits w n in omega arith
+
+entity-short : (row : ℕ) (s : List ℕ) → length (text (vEntity row s)) ≤ 2 * length s + 42
+entity-short row s = let k = count-most row in let e = length-entity row s in omega arith
+
+signed-short : (z : ℤ) → length (signedDecimal z) ≤ 41
+signed-short (pos n) = let k = count-most n in let e = length-natural n in omega arith
+signed-short (negsuc n) = let k = count-most (suc n) in let e = length-negative n in omega arith
+
+ext-short : (x : Ext) (z : ℤ) → length (text (vExt x z)) < 131200
+ext-short x z = let k = signed-short z in let e = length-ext x z in omega arith
+
+union-short : (vs ws : Values) → length (text (vSet (union vs ws))) ≤ length (text (vSet vs)) + length (text (vSet ws))
+union-short vs ws =
+    let e = length-set (union vs ws) in
+    let s = size-union vs ws in
+    let p = length-set vs in
+    let q = length-set ws in
+    omega arith
+
+module _ (T : Tables) (rules : Lawful T) where
+  module _ (a : ℕ) (below : (e : Option ℕ) (t : Tree) (l : Lit) → read T a e t ≡ ok l → length (text (l .value)) < room t) where
+    fields-short : (fs : List ℕ) (us : Trees) (vs : Values) → FieldReadings T a fs us vs → size vs ≤ rooms us
+    fields-short _ _ _ f-nil = omega arith
+    fields-short _ _ _ (f-cons {f = f} {fs = fs} {u = u} {us = us} {vs = vs} l e k h) =
+        let p = below (some f) u l e in
+        let q = fields-short fs us vs h in
+        let r = room-cons u us in
+        omega arith
+
+    reading-short : (e : Option ℕ) (t : Tree) (row : ℕ) (v : Value) → Reading T a e t row v → length (text v) < room t
+    reading-short e t _ _ (r-bits {w = w} {n = n} {row = row} k) = let h = bits-short w (n % 2 ^ w) (width-most T rules row w k) in omega (arith, h)
+    reading-short e t _ _ (r-string {s = s} k) = let h = length-string s in omega arith
+    reading-short e t _ _ (r-true k) = omega (arith, length-true, room-node t)
+    reading-short e t _ _ (r-false k) = omega (arith, length-false, room-node t)
+    reading-short e t _ _ (r-member i m h k) =
+        let g = member-kept T m rules i k .short in
+        omega (arith, g, entity-short (m .entity) (m .text), room-node t)
+    reading-short e t _ _ (r-none q h k) = omega (arith, length-none, room-node t)
+    reading-short e t _ _ (r-asSome {t = u} {v = v} l h k m) =
+        omega (arith, length-some (l .value), below (some (l .row)) v l m, room-second (app (call2 (bytes "as") (symbol (bytes "some")) u)) v)
+    reading-short e t _ _ (r-some {v = v} x l h m k) = omega (arith, length-some (l .value), below x v l m, room-second (symbol (bytes "some")) v)
+    reading-short e t _ _ (r-empty q h k) = omega (arith, length-set vNil, room-node t)
+    reading-short e t _ _ (r-singleton {v = v} x l h m k) = omega (arith, length-set (vCons (l .value) vNil), below x v l m, room-second (symbol (bytes "set.singleton")) v)
+    reading-short e t _ _ (r-union {v = v} {w = w} {vs = vs} {ws = ws} l m f g h x y) =
+        let left = subst (λ (u : Value). length (text u) < room v) x (below e v l f) in
+        let right = subst (λ (u : Value). length (text u) < room w) y (below e w m g) in
+        omega (arith, union-short vs ws, left, right, room-third (symbol (bytes "set.union")) v w)
+    reading-short e t _ _ (r-extension {x = x} {n = n} k) = omega (arith, ext-short x (signed 64 (n % 2 ^ 64)), room-node t)
+    reading-short e t _ _ (r-indexed {w = w} {n = n} {row = row} h f k) = omega (arith, bits-short w n (width-most T rules row w k), room-node t)
+    reading-short e t _ _ (r-entity {f = f} {s = s} {row = row} h k) = omega (arith, entity-short row s, room-second (symbol f) (quoted s))
+    reading-short e t _ _ (r-record {f = f} {us = us} {row = row} {vs = vs} fs h k g) =
+        omega (arith, length-record row vs, count-most row, fields-short fs us vs g, room-cons (symbol f) us)
+
+  short : (allow : ℕ) (expected : Option ℕ) (t : Tree) (l : Lit) → read T allow expected t ≡ ok l → length (text (l .value)) < room t
+  unfolding read
+  short zero e t l m = refuses m
+  short (suc a) e t l m = reading-short a (λ x u k n. short a x u k n) e t (l .row) (l .value) (reading T a e t l m)
+
+module _ (T : Tables) (rules : lawful T ≡ true) (allow : ℕ) (expected : Option ℕ) (t : Tree) (l : Lit) where
+  pub read-short : read T allow expected t ≡ ok l → length (text (l .value)) < 131200 * nodes t + 2 * length (treeText t)
+  read-short m = short T (lawful-parts T rules) allow expected t l m
+
+  -- of a tree that an arena holds
+  pub read-small : nodes t ≤ mostNodes → length (treeText t) ≤ mostText → read T allow expected t ≡ ok l → length (text (l .value)) < 2 ^ 60
+  read-small h k m = let s = read-short m in omega arith

@@ -1,0 +1,1 @@
+// No code: that what is read has its sort.

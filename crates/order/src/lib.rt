@@ -1,0 +1,1 @@
+// No code: what order by bytes is, and its laws.

@@ -1,0 +1,11 @@
+pub mod Words
+pub mod Pieces
+pub mod Runs
+pub mod Lowers
+pub mod Lays
+pub mod Finds
+pub mod Listings
+pub mod Knits
+pub mod Joins
+pub mod Splits
+pub mod Orders

@@ -1,0 +1,6 @@
+pub mod Run
+pub mod Piece
+pub mod Place
+pub mod Merge
+pub mod Index
+pub mod Arrange

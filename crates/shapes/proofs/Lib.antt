@@ -1,0 +1,6 @@
+pub mod Looks
+pub mod Stood
+pub mod Arms
+pub mod Pairs
+pub mod Heads
+pub mod Sorts

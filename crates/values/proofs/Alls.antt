@@ -1,0 +1,31 @@
+-- A test that every element passes, of lists put together.
+-- Assumes nothing.
+use mathlib.Core.Path.{_≡_, refl}
+use mathlib.Core.Bool.{Bool, true, _&&_}
+use mathlib.Core.List.{List, [], _∷_, _++_}
+use Prim.Native.Nat.{ℕ}
+use Rattle.utf8.proofs.Leads.{both-left, both-right}
+use Rattle.ground.specs.Lists.{all, joined}
+
+pub both : {a b : Bool} → a ≡ true → b ≡ true → (a && b) ≡ true
+both p q = rw (p, q)
+
+module _ {A : Type 0} (test : A → Bool) where
+  pub all-append : (xs ys : List A) → all test xs ≡ true → all test ys ≡ true → all test (xs ++ ys) ≡ true
+  unfolding all
+  all-append [] ys p q = q
+  all-append (x ∷ xs) ys p q = both (both-left (test x) (all test xs) p) (all-append xs ys (both-right (test x) (all test xs) p) q)
+
+  pub all-by : (other : A → Bool) → ((x : A) → test x ≡ true → other x ≡ true) → (xs : List A) → all test xs ≡ true → all other xs ≡ true
+  unfolding all
+  all-by other f [] p = refl
+  all-by other f (x ∷ xs) p = both (f x (both-left (test x) (all test xs) p)) (all-by other f xs (both-right (test x) (all test xs) p))
+
+pub all-joined : (test : ℕ → Bool) (separator : List ℕ) (parts : List (List ℕ)) → all test separator ≡ true → all (λ p. all test p) parts ≡ true →
+    all test (joined separator parts) ≡ true
+unfolding all joined
+all-joined test separator [] p q = refl
+all-joined test separator (part ∷ []) p q = both-left (all test part) true q
+all-joined test separator (part ∷ next ∷ parts) p q =
+    all-append test part (separator ++ joined separator (next ∷ parts)) (both-left (all test part) _ q)
+    (all-append test separator (joined separator (next ∷ parts)) p (all-joined test separator (next ∷ parts) p (both-right (all test part) _ q)))

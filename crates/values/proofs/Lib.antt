@@ -1,0 +1,13 @@
+pub mod Alls
+pub mod Digits
+pub mod Forms
+pub mod Tells
+pub mod Plains
+pub mod Lengths
+pub mod Before
+pub mod Arranged
+pub mod Merges
+pub mod Normals
+pub mod Unions
+pub mod Members
+pub mod Samples

@@ -1,0 +1,30 @@
+-- The members of a set as records of a run: brought into order by their bytes they are the members in order.
+-- Assumes nothing.
+use mathlib.Core.Path.{_≡_, sym, _∙_}
+use mathlib.Core.Bool.{true}
+use mathlib.Core.List.{List, [], _∷_}
+use Prim.Native.Nat.{ℕ}
+use Rattle.ground.specs.Lists.{all}
+use Rattle.utf8.proofs.Leads.{both-left, both-right}
+use Rattle.order.specs.Order.{arranged}
+use Rattle.runs.specs.Run.{key, plain}
+use Rattle.tables.specs.Sort.{Tables}
+use Rattle.values.specs.Value.{Values}
+use Rattle.values.specs.Text.{texts}
+use Rattle.values.specs.Normal.{arrangedValues}
+use Rattle.values.specs.HasSort.{HaveSort}
+use Rattle.values.proofs.Arranged.{Each, own, arranged-by}
+use Rattle.values.proofs.Plains.{printable, key-whole, texts-plain, plain-all}
+use Rattle.values.proofs.Unions.{texts-arranged}
+
+keys-whole : (ss : List (List ℕ)) → all (λ s. all printable s) ss ≡ true → Each (λ (s : List ℕ). s ≡ key s) ss
+unfolding all
+keys-whole [] h = tt
+keys-whole (s ∷ ss) h = (sym (key-whole s (both-left (all printable s) _ h)), keys-whole ss (both-right (all printable s) _ h))
+
+module _ (A : Values → Type 0) (T : Tables) (r : ℕ) (vs : Values) (h : HaveSort vs A T r) where
+  pub members-plain : all plain (texts vs) ≡ true
+  members-plain = plain-all (texts vs) (texts-plain A T vs r h)
+
+  pub members-arranged : texts (arrangedValues vs) ≡ arranged key true (texts vs)
+  members-arranged = texts-arranged vs ∙ arranged-by own key true (texts vs) (keys-whole (texts vs) (texts-plain A T vs r h))

@@ -1,0 +1,1 @@
+// No code: values, their text and their sorts, and the laws of both.
