@@ -1,29 +1,22 @@
--- What is arranged ascends, has only elements of the list, and stays if it is arranged again; a map that keeps the keys' order keeps it.
+-- What is arranged ascends, has only elements of the list, and stays if it is arranged again; a map that keeps the keys' order keeps it, and keys that are one arrange as one.
 -- Assumes nothing.
 use mathlib.Core.Path.{_≡_, refl, ap, sym, _∙_, subst}
 use mathlib.Core.Bool.{Bool, true, false, cond}
-use mathlib.Core.List.{List, [], _∷_, map}
+use mathlib.Core.List.{List, [], _∷_, map, map-id}
 use Prim.Native.Nat.{ℕ}
 use Rattle.ground.specs.Lists.{all}
 use Rattle.order.specs.Order.{before, insert, arranged}
 use Rattle.order.specs.Every.{Every, none, also, Ascends, empty, first}
 use Rattle.order.specs.Merge.{inserts}
-use Rattle.order.proofs.Befores.{before-transitive, by-order-of}
-use Rattle.order.proofs.Everies.{every-map, all-every, every-all}
-use Rattle.order.proofs.Inserts.{insert-here, insert-past, insert-same, insert-none}
+use Rattle.order.proofs.Befores.{before-transitive}
+use Rattle.order.proofs.Everies.{every-map, every-one, all-every, every-all}
+use Rattle.order.proofs.Inserts.{insert-here, insert-none, by-insert}
 
 module _ {A : Type 0} (key : A → List ℕ) (last : Bool) where
-  every-choice : (P : A → Type 0) (t : Bool) (x y : A) (ys : List A) → P x → P y → Every P ys → Every P (cond t (y ∷ ys) (x ∷ ys))
-  every-choice P true x y ys p q qs = also q qs
-  every-choice P false x y ys p q qs = also p qs
-
   pub every-insert : (P : A → Type 0) (x : A) (ys : List A) → P x → Every P ys → Every P (insert key last x ys)
   every-insert P x [] p none = subst (Every P) (sym (insert-none key last x)) (also p none)
   every-insert P x (y ∷ ys) p (also q qs) =
-      by-order-of (key x) (key y)
-      (λ e. subst (Every P) (sym (insert-here key last x y ys e)) (also p (also q qs)))
-      (λ e. subst (Every P) (sym (insert-same key last x y ys e)) (every-choice P last x y ys p q qs))
-      (λ e. subst (Every P) (sym (insert-past key last x y ys e)) (also q (every-insert P x ys p qs)))
+      by-insert key last (Every P) x y ys (λ e. also p (also q qs)) (λ e. also q qs) (λ e. also p qs) (λ e. also q (every-insert P x ys p qs))
 
   pub every-inserts : (P : A → Type 0) (us bs : List A) → Every P us → Every P bs → Every P (inserts key last us bs)
   unfolding inserts
@@ -43,17 +36,14 @@ module _ {A : Type 0} (key : A → List ℕ) (last : Bool) where
   pub first-before : (x y : A) (ys : List A) → before (key x) (key y) ≡ true → Every (λ z. before (key y) (key z) ≡ true) ys → Every (λ z. before (key x) (key z) ≡ true) (y ∷ ys)
   first-before x y ys e h = also e (every-map (λ z. before (key y) (key z) ≡ true) (λ z. before (key x) (key z) ≡ true) (λ z f. before-transitive (key x) (key y) (key z) e f) ys h)
 
-  ascends-choice : (t : Bool) (x y : A) (ys : List A) → key x ≡ key y → Every (λ z. before (key y) (key z) ≡ true) ys → Ascends key ys → Ascends key (cond t (y ∷ ys) (x ∷ ys))
-  ascends-choice true x y ys e a s = first a s
-  ascends-choice false x y ys e a s = first (subst (λ (k : List ℕ). Every (λ z. before k (key z) ≡ true) ys) (sym e) a) s
-
   pub ascends-insert : (x : A) (ys : List A) → Ascends key ys → Ascends key (insert key last x ys)
   ascends-insert x [] s = subst (Ascends key) (sym (insert-none key last x)) (first none empty)
   ascends-insert x (y ∷ ys) (first a s) =
-      by-order-of (key x) (key y)
-      (λ e. subst (Ascends key) (sym (insert-here key last x y ys e)) (first (first-before x y ys e a) (first a s)))
-      (λ e. subst (Ascends key) (sym (insert-same key last x y ys e)) (ascends-choice last x y ys e a s))
-      (λ e. subst (Ascends key) (sym (insert-past key last x y ys e)) (first (every-insert (λ z. before (key y) (key z) ≡ true) x ys e a) (ascends-insert x ys s)))
+      by-insert key last (Ascends key) x y ys
+      (λ e. first (first-before x y ys e a) (first a s))
+      (λ e. first a s)
+      (λ e. first (subst (λ (k : List ℕ). Every (λ z. before k (key z) ≡ true) ys) (sym e) a) s)
+      (λ e. first (every-insert (λ z. before (key y) (key z) ≡ true) x ys e a) (ascends-insert x ys s))
 
   pub ascends-inserts : (us bs : List A) → Ascends key bs → Ascends key (inserts key last us bs)
   unfolding inserts
@@ -125,13 +115,9 @@ module _ {A B : Type 0} (key : A → List ℕ) (key′ : B → List ℕ) (f : A 
         other = ap (λ (k : List ℕ). before k (key′ (f x))) (e y) ∙ ap (λ (k : List ℕ). before (key y) k) (e x);
       }
 
-      every : (x : A) (ys : List A) → Every (Alike x) ys
-      every x [] = none
-      every x (y ∷ ys) = also (alike x y) (every x ys)
-
       go : (ys : List A) → AllAlike ys
       go [] = nothing
-      go (y ∷ ys) = one-more (every y ys) (go ys)
+      go (y ∷ ys) = one-more (every-one (Alike y) (alike y) ys) (go ys)
 
   -- the same where the map keeps the order of all pairs of the list's elements
   pub map-order : (P : A → Type 0) → ((x y : A) → P x → P y → before (key′ (f x)) (key′ (f y)) ≡ before (key x) (key y))
@@ -144,3 +130,10 @@ module _ {A B : Type 0} (key : A → List ℕ) (key′ : B → List ℕ) (f : A 
       go : (ys : List A) → Every P ys → AllAlike ys
       go [] none = nothing
       go (y ∷ ys) (also p ps) = one-more (every y p ys ps) (go ys ps)
+
+-- keys that are one on the elements arrange them as one
+pub arranged-by : {A : Type 0} (key key′ : A → List ℕ) (last : Bool) (xs : List A) → Every (λ x. key x ≡ key′ x) xs → arranged key last xs ≡ arranged key′ last xs
+arranged-by key key′ last xs h =
+    sym (map-id (arranged key last xs))
+    ∙ map-order key key′ (λ x. x) last (λ x. key x ≡ key′ x) (λ x y p q. rw (p, q) refl) xs h
+    ∙ ap (arranged key′ last) (map-id xs)

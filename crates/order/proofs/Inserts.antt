@@ -1,6 +1,6 @@
 -- One more put among elements, and a whole list of them.
 -- Assumes nothing.
-use mathlib.Core.Path.{_≡_, refl, ap, sym, _∙_}
+use mathlib.Core.Path.{_≡_, refl, ap, sym, _∙_, subst}
 use mathlib.Core.Bool.{Bool, true, false, cond}
 use mathlib.Core.List.{List, [], _∷_, _++_}
 use Prim.Native.Nat.{ℕ}
@@ -48,6 +48,19 @@ module _ {A : Type 0} (key : A → List ℕ) (last : Bool) where
   pub insert-none : (a : A) → insert key last a [] ≡ a ∷ []
   unfolding insert
   insert-none a = refl
+
+  -- what holds of each outcome holds of what was put in
+  pub by-insert : (P : List A → Type 0) (x y : A) (ys : List A) → (before (key x) (key y) ≡ true → P (x ∷ y ∷ ys))
+      → (key x ≡ key y → P (y ∷ ys)) → (key x ≡ key y → P (x ∷ ys)) → (before (key y) (key x) ≡ true → P (y ∷ insert key last x ys)) → P (insert key last x (y ∷ ys))
+  by-insert P x y ys here kept put past =
+      by-order-of (key x) (key y)
+      (λ e. subst P (sym (insert-here x y ys e)) (here e))
+      (λ e. subst P (sym (insert-same x y ys e)) (choice last (kept e) (put e)))
+      (λ e. subst P (sym (insert-past x y ys e)) (past e))
+    where
+      choice : (t : Bool) → P (y ∷ ys) → P (x ∷ ys) → P (cond t (y ∷ ys) (x ∷ ys))
+      choice true p q = p
+      choice false p q = q
 
   -- of two with one key, put in one after the other, one stays
   pub insert-again : (a b : A) (zs : List A) → key a ≡ key b → insert key last a (insert key last b zs) ≡ cond last (insert key last b zs) (insert key last a zs)

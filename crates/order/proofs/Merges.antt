@@ -5,10 +5,10 @@ use mathlib.Core.Bool.{Bool, true, false, cond}
 use mathlib.Core.List.{List, [], _∷_, _++_}
 use Prim.Native.Nat.{ℕ}
 use Rattle.order.specs.Order.{before, insert}
-use Rattle.order.specs.Every.{Every, none, also, Ascends, first}
+use Rattle.order.specs.Every.{Every, none, also, Ascends}
 use Rattle.order.specs.Merge.{inserts}
 use Rattle.order.proofs.Befores.{by-order-of}
-use Rattle.order.proofs.Everies.{every-map, every-head, ascends-left, ascends-right, ascends-head, ascends-tail, ascends-across}
+use Rattle.order.proofs.Everies.{every-map, every-one, every-head, ascends-left, ascends-right, ascends-head, ascends-tail, ascends-across}
 use Rattle.order.proofs.Inserts.{insert-here, insert-past, insert-same, insert-none, inserts-append, inserts-arranged}
 use Rattle.order.proofs.Arranges.{every-inserts, insert-first, first-before, arranged-ascending}
 
@@ -128,12 +128,8 @@ module _ {A : Type 0} (key : A → List ℕ) (last : Bool) where
   module _ (fs gs : List A) (x : A) (low : Over x fs) where
     fronts : (s : Ascends key (fs ++ gs)) → inserts key last (fs ++ gs) (x ∷ []) ≡ fs ++ inserts key last gs (x ∷ [])
     fronts s =
-        inserts-parts fs gs [] (x ∷ []) s (every-map (λ f. before (key f) (key x) ≡ true) (λ f. Under f (x ∷ [])) (λ f e. also e none) fs low) (every-none gs)
+        inserts-parts fs gs [] (x ∷ []) s (every-map (λ f. before (key f) (key x) ≡ true) (λ f. Under f (x ∷ [])) (λ f e. also e none) fs low) (every-one (λ v. Over v []) (λ v. none) gs)
         ∙ ap (λ (l : List A). l ++ inserts key last gs (x ∷ [])) (inserts-none fs (ascends-left key fs gs s))
-      where
-        every-none : (zs : List A) → Every (λ v. Over v []) zs
-        every-none [] = none
-        every-none (z ∷ zs) = also none (every-none zs)
 
     over-x : (zs : List A) → Under x zs → Every (λ z. Over z (x ∷ [])) zs
     over-x zs h = every-map (λ z. before (key x) (key z) ≡ true) (λ z. Over z (x ∷ [])) (λ z f. also f none) zs h

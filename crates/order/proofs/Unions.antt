@@ -4,7 +4,7 @@ use mathlib.Core.Path.{_≡_, refl, ap, sym, _∙_}
 use mathlib.Core.Bool.{Bool, true, false, cond}
 use mathlib.Core.List.{List, [], _∷_, _++_}
 use Prim.Native.Nat.{ℕ}
-use Rattle.order.specs.Order.{before, insert, arranged}
+use Rattle.order.specs.Order.{insert, arranged}
 use Rattle.order.specs.Merge.{inserts}
 use Rattle.order.proofs.Befores.{by-order-of}
 use Rattle.order.proofs.Inserts.{insert-again, insert-swap, inserts-append, inserts-arranged, arranged-append}

@@ -6,20 +6,17 @@ use mathlib.Core.List.{List, [], _∷_, _++_}
 use Prim.Native.Nat.{ℕ}
 use Rattle.utf8.proofs.Leads.{both-left, both-right}
 use Rattle.ground.specs.Lists.{all, joined}
+use Rattle.order.proofs.Everies.{every-map, every-append, all-every, every-all}
 
 pub both : {a b : Bool} → a ≡ true → b ≡ true → (a && b) ≡ true
 both p q = rw (p, q)
 
 module _ {A : Type 0} (test : A → Bool) where
   pub all-append : (xs ys : List A) → all test xs ≡ true → all test ys ≡ true → all test (xs ++ ys) ≡ true
-  unfolding all
-  all-append [] ys p q = q
-  all-append (x ∷ xs) ys p q = both (both-left (test x) (all test xs) p) (all-append xs ys (both-right (test x) (all test xs) p) q)
+  all-append xs ys p q = every-all test (xs ++ ys) (every-append (λ x. test x ≡ true) xs ys (all-every test xs p) (all-every test ys q))
 
   pub all-by : (other : A → Bool) → ((x : A) → test x ≡ true → other x ≡ true) → (xs : List A) → all test xs ≡ true → all other xs ≡ true
-  unfolding all
-  all-by other f [] p = refl
-  all-by other f (x ∷ xs) p = both (f x (both-left (test x) (all test xs) p)) (all-by other f xs (both-right (test x) (all test xs) p))
+  all-by other f xs p = every-all other xs (every-map (λ x. test x ≡ true) (λ x. other x ≡ true) f xs (all-every test xs p))
 
 pub all-joined : (test : ℕ → Bool) (separator : List ℕ) (parts : List (List ℕ)) → all test separator ≡ true → all (λ p. all test p) parts ≡ true →
     all test (joined separator parts) ≡ true

@@ -4,9 +4,6 @@ pub mod Forms
 pub mod Tells
 pub mod Plains
 pub mod Lengths
-pub mod Before
-pub mod Arranged
-pub mod Merges
 pub mod Normals
 pub mod Unions
 pub mod Members

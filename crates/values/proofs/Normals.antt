@@ -7,12 +7,14 @@ use Prim.Native.Nat.{ℕ, _+_, _≤_}
 use native.Mathlib.Omega.{arith}
 use lib.ListN.{length}
 use Rattle.order.specs.Order.{insert, arranged}
+use Rattle.order.specs.Every.{Every, none, also, Ascends, first}
+use Rattle.order.proofs.Inserts.{by-insert}
+use Rattle.order.proofs.Arranges.{every-arranged, ascends-arranged, arranged-again}
 use Rattle.tables.specs.Sort.{Tables}
 use Rattle.values.specs.Value.{Value, Values, vBool, vString, vExt, vBits, vNone, vSome, vSet, vEntity, vRecord, vNil, vCons, listed, unlisted}
 use Rattle.values.specs.Text.{text}
 use Rattle.values.specs.Normal.{normal, normals, arrangedValues}
 use Rattle.values.specs.HasSort.{HasSort, HaveSort, FieldSorts, Ascending}
-use Rattle.values.proofs.Arranged.{Each, Ascends, by-insert, arranged-each, arranged-ascends, arranged-stays}
 use Rattle.values.proofs.Lengths.{size, length-some, length-set, length-record}
 
 pub listed-back : (xs : List Value) → listed (unlisted xs) ≡ xs
@@ -25,29 +27,29 @@ unlisted-back (vCons v vs) = ap (λ (l : Values). vCons v l) (unlisted-back vs)
 
 -- in order
 ascending : (xs : List Value) → Ascends text xs → Ascending (unlisted xs)
-ascending [] h = tt
-ascending (x ∷ []) h = tt
-ascending (x ∷ y ∷ ys) h = (h .0, ascending (y ∷ ys) (h .1))
+ascending [] s = tt
+ascending (x ∷ []) s = tt
+ascending (x ∷ y ∷ ys) (first (also e h) s) = (e, ascending (y ∷ ys) s)
 
 pub arranged-ascending : (vs : Values) → Ascending (arrangedValues vs)
 unfolding arrangedValues
-arranged-ascending vs = ascending (arranged text true (listed vs)) (arranged-ascends text true (listed vs))
+arranged-ascending vs = ascending (arranged text true (listed vs)) (ascends-arranged text true (listed vs))
 
 module _ (A : Values → Type 0) (T : Tables) (r : ℕ) where
   abbrev Has : Value → Type 0
   Has v = HasSort v A T r
 
-  each-has : (vs : Values) → HaveSort vs A T r → Each Has (listed vs)
-  each-has vNil h = tt
-  each-has (vCons v vs) h = (h .0, each-has vs (h .1))
+  each-has : (vs : Values) → HaveSort vs A T r → Every Has (listed vs)
+  each-has vNil h = none
+  each-has (vCons v vs) h = also (h .0) (each-has vs (h .1))
 
-  have-each : (xs : List Value) → Each Has xs → HaveSort (unlisted xs) A T r
-  have-each [] h = tt
-  have-each (x ∷ xs) h = (h .0, have-each xs (h .1))
+  have-each : (xs : List Value) → Every Has xs → HaveSort (unlisted xs) A T r
+  have-each [] none = tt
+  have-each (x ∷ xs) (also h hs) = (h, have-each xs hs)
 
   pub arranged-fit : (vs : Values) → HaveSort vs A T r → HaveSort (arrangedValues vs) A T r
   unfolding arrangedValues
-  arranged-fit vs h = have-each (arranged text true (listed vs)) (arranged-each text true Has (listed vs) (each-has vs h))
+  arranged-fit vs h = have-each (arranged text true (listed vs)) (every-arranged text true Has (listed vs) (each-has vs h))
 
 -- whatever is asked of the sets that are written
 module _ (A : Values → Type 0) (T : Tables) where
@@ -83,8 +85,8 @@ unfolding insert
 size-insert x [] = omega arith
 size-insert x (y ∷ ys) =
     let h = size-insert x ys in
-    by-insert text true x y ys (λ zs. size (unlisted zs) ≤ length (text x) + 1 + size (unlisted (y ∷ ys)))
-    (λ k. omega arith) (λ k. omega arith) (λ e. omega arith) (λ e. omega arith)
+    by-insert text true (λ zs. size (unlisted zs) ≤ length (text x) + 1 + size (unlisted (y ∷ ys))) x y ys
+    (λ k. omega arith) (λ e. omega arith) (λ e. omega arith) (λ k. omega arith)
 
 pub size-arranged : (vs : Values) → size (arrangedValues vs) ≤ size vs
 unfolding arrangedValues arranged
@@ -115,20 +117,20 @@ mutual
 abbrev Stays : Value → Type 0
 Stays v = normal v ≡ v
 
-all-stay : (xs : List Value) → Each Stays xs → normals (unlisted xs) ≡ unlisted xs
+all-stay : (xs : List Value) → Every Stays xs → normals (unlisted xs) ≡ unlisted xs
 unfolding normal
-all-stay [] h = refl
-all-stay (x ∷ xs) h = ap₂ {C = Values} vCons (h .0) (all-stay xs (h .1))
+all-stay [] none = refl
+all-stay (x ∷ xs) (also h hs) = ap₂ {C = Values} vCons h (all-stay xs hs)
 
 pub arranged-twice : (vs : Values) → arrangedValues (arrangedValues vs) ≡ arrangedValues vs
 unfolding arrangedValues
 arranged-twice vs =
-    let xs = arranged text true (listed vs) in
-    ap (λ (l : List Value). unlisted (arranged text true l)) (listed-back xs) ∙ ap (λ (l : List Value). unlisted l) (arranged-stays text true xs (arranged-ascends text true (listed vs)))
+    ap (λ (l : List Value). unlisted (arranged text true l)) (listed-back (arranged text true (listed vs)))
+    ∙ ap (λ (l : List Value). unlisted l) (arranged-again text true (listed vs))
 
-arranged-stay : (vs : Values) → Each Stays (listed vs) → normals (arrangedValues vs) ≡ arrangedValues vs
+arranged-stay : (vs : Values) → Every Stays (listed vs) → normals (arrangedValues vs) ≡ arrangedValues vs
 unfolding arrangedValues
-arranged-stay vs h = all-stay (arranged text true (listed vs)) (arranged-each text true Stays (listed vs) h)
+arranged-stay vs h = all-stay (arranged text true (listed vs)) (every-arranged text true Stays (listed vs) h)
 
 mutual
   unfolding normal
@@ -146,9 +148,9 @@ mutual
       let e = unlisted-back (normals vs) in
       ap (vRecord q) (subst (λ (l : Values). normals l ≡ l) e (all-stay (listed (normals vs)) (each-twice vs)))
 
-  each-twice : (vs : Values) → Each Stays (listed (normals vs))
-  each-twice vNil = tt
-  each-twice (vCons v vs) = (normal-twice v, each-twice vs)
+  each-twice : (vs : Values) → Every Stays (listed (normals vs))
+  each-twice vNil = none
+  each-twice (vCons v vs) = also (normal-twice v) (each-twice vs)
 
 -- the members of a set that was brought into order stay as they are
 pub members-twice : (vs : Values) → normals (arrangedValues (normals vs)) ≡ arrangedValues (normals vs)

@@ -5,15 +5,22 @@ use mathlib.Core.Bool.{true}
 use mathlib.Core.List.{List, [], _∷_, _++_, map, nil≢cons, cons≢nil, head-eq-of-cons-eq, tail-eq-of-cons-eq}
 use Prim.Native.Nat.{ℕ}
 use Rattle.order.specs.Order.{arranged}
+use Rattle.order.proofs.Arranges.{map-keys}
+use Rattle.order.proofs.Unions.{union-left, union-either, union-same}
 use Rattle.tables.specs.Sort.{Tables}
 use Rattle.values.specs.Value.{Value, Values, vSet, vNil, vCons, listed, unlisted, union, members}
 use Rattle.values.specs.Text.{text, texts}
 use Rattle.values.specs.Normal.{normal, normals, arrangedValues}
 use Rattle.values.specs.HasSort.{HaveSort, Ascending}
-use Rattle.values.proofs.Arranged.{own, map-arranged}
-use Rattle.values.proofs.Merges.{order, order-turned, order-doubled, order-before}
 use Rattle.values.proofs.Normals.{normals-fit, arranged-fit, members-twice}
 use Rattle.values.proofs.Tells.{tells}
+
+-- a text that is its own key
+abbrev pub own : List ℕ → List ℕ
+own t = t
+
+one-key : (a b : List ℕ) → own a ≡ own b → a ≡ b
+one-key a b e = e
 
 pub union-grouped : (us vs ws : Values) → union (union us vs) ws ≡ union us (union vs ws)
 union-grouped vNil vs ws = refl
@@ -51,7 +58,7 @@ texts-unlisted (x ∷ xs) = ap (λ (l : List (List ℕ)). text x ∷ l) (texts-u
 pub texts-arranged : (vs : Values) → texts (arrangedValues vs) ≡ arranged own true (texts vs)
 unfolding arrangedValues
 texts-arranged vs =
-    texts-unlisted (arranged text true (listed vs)) ∙ map-arranged text true (listed vs) ∙ ap (λ (l : List (List ℕ)). arranged own true l) (sym (texts-listed vs))
+    texts-unlisted (arranged text true (listed vs)) ∙ map-keys text own text true (listed vs) (λ v. refl) ∙ ap (λ (l : List (List ℕ)). arranged own true l) (sym (texts-listed vs))
 
 module _ (A B : Values → Type 0) (T : Tables) (r : ℕ) where
   -- members of one sort with one list of texts are one
@@ -64,7 +71,7 @@ module _ (A B : Values → Type 0) (T : Tables) (r : ℕ) where
       ap₂ {C = Values} vCons (tells A B T v w r (h .0) (k .0) (head-eq-of-cons-eq e)) (texts-tell vs ws (h .1) (k .1) (tail-eq-of-cons-eq e))
 
   -- and so are sets of them that have, in order, one list of texts
-  pub one-order : (vs ws : Values) → HaveSort vs A T r → HaveSort ws B T r → order true (texts vs) ≡ order true (texts ws) → arrangedValues vs ≡ arrangedValues ws
+  pub one-order : (vs ws : Values) → HaveSort vs A T r → HaveSort ws B T r → arranged own true (texts vs) ≡ arranged own true (texts ws) → arrangedValues vs ≡ arrangedValues ws
   one-order vs ws h k e =
       texts-tell (arrangedValues vs) (arrangedValues ws) (arranged-fit A T r vs h) (arranged-fit B T r ws k) (texts-arranged vs ∙ e ∙ sym (texts-arranged ws))
 
@@ -74,21 +81,21 @@ texts-both vs ws = ap texts (normals-union vs ws) ∙ texts-union (normals vs) (
 module _ (A : Values → Type 0) (T : Tables) (r : ℕ) where
   -- what the members of two sets come to, where their texts come to the same
   one-union : (us vs ws : Values) → HaveSort us A T r → HaveSort vs A T r → HaveSort ws A T r →
-      order true (texts (normals us) ++ texts (normals vs)) ≡ order true (texts (normals ws)) → normal (vSet (union us vs)) ≡ normal (vSet ws)
+      arranged own true (texts (normals us) ++ texts (normals vs)) ≡ arranged own true (texts (normals ws)) → normal (vSet (union us vs)) ≡ normal (vSet ws)
   unfolding normal
   one-union us vs ws f g h e =
       ap vSet (ap arrangedValues (normals-union us vs)
       ∙ one-order Ascending Ascending T r (union (normals us) (normals vs)) (normals ws)
       (union-fits Ascending T r (normals us) (normals vs) (normals-fit A T us r f) (normals-fit A T vs r g)) (normals-fit A T ws r h)
-      (ap (order true) (texts-union (normals us) (normals vs)) ∙ e))
+      (ap (arranged own true) (texts-union (normals us) (normals vs)) ∙ e))
 
   pub union-turned : (vs ws : Values) → HaveSort vs A T r → HaveSort ws A T r → normal (vSet (union vs ws)) ≡ normal (vSet (union ws vs))
   union-turned vs ws h k =
       one-union vs ws (union ws vs) h k (union-fits A T r ws vs k h)
-      (order-turned true (texts (normals vs)) (texts (normals ws)) ∙ ap (order true) (sym (texts-both ws vs)))
+      (union-either own true one-key (texts (normals vs)) (texts (normals ws)) ∙ ap (arranged own true) (sym (texts-both ws vs)))
 
   pub union-doubled : (vs : Values) → HaveSort vs A T r → normal (vSet (union vs vs)) ≡ normal (vSet vs)
-  union-doubled vs h = one-union vs vs vs h h h (order-doubled true (texts (normals vs)))
+  union-doubled vs h = one-union vs vs vs h h h (union-same own true one-key (texts (normals vs)))
 
   -- a part may be brought into order before
   pub union-before : (vs ws : Values) → HaveSort vs A T r → HaveSort ws A T r → normal (vSet (union (members (normal (vSet vs))) ws)) ≡ normal (vSet (union vs ws))
@@ -100,6 +107,6 @@ module _ (A : Values → Type 0) (T : Tables) (r : ℕ) where
       ap vSet (ap arrangedValues (normals-union us ws ∙ ap (λ (l : Values). union l (normals ws)) (members-twice vs))
       ∙ one-order Ascending Ascending T r (union us (normals ws)) (union (normals vs) (normals ws))
       (union-fits Ascending T r us (normals ws) (arranged-fit Ascending T r (normals vs) f) g) (union-fits Ascending T r (normals vs) (normals ws) f g)
-      (ap (order true) (texts-union us (normals ws) ∙ ap (λ (l : List (List ℕ)). l ++ texts (normals ws)) (texts-arranged (normals vs)))
-      ∙ order-before true (texts (normals vs)) (texts (normals ws)) ∙ ap (order true) (sym (texts-union (normals vs) (normals ws))))
+      (ap (arranged own true) (texts-union us (normals ws) ∙ ap (λ (l : List (List ℕ)). l ++ texts (normals ws)) (texts-arranged (normals vs)))
+      ∙ union-left own true (texts (normals vs)) (texts (normals ws)) ∙ ap (arranged own true) (sym (texts-union (normals vs) (normals ws))))
       ∙ ap arrangedValues (sym (normals-union vs ws)))

@@ -9,7 +9,7 @@ use Rattle.ground.specs.Lists.{joined}
 use Rattle.order.specs.Order.{before, insert, arranged}
 use Rattle.decimals.specs.Decimal.{decimal, lastDigits, digitCountWithin, signedDecimal}
 use Rattle.tables.specs.Sort.{decimal as isDecimal, datetime, duration}
-use Rattle.values.specs.Value.{Value, vBool, vString, vExt, vBits, vNone, vSome, vSet, vEntity, vRecord, vNil, vCons}
+use Rattle.values.specs.Value.{vBool, vString, vExt, vBits, vNone, vSome, vSet, vEntity, vRecord, vNil, vCons}
 use Rattle.values.specs.Text.{text, hex, hexText, hexDigit}
 use Rattle.values.specs.Normal.{normal, arrangedValues}
 

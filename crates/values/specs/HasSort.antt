@@ -1,8 +1,8 @@
 -- Document 01, "Sorts and literals": what it is for a value to have the sort of a row.
 use mathlib.Core.Path.{_≡_}
-use mathlib.Core.Bool.{Bool, true, _&&_}
+use mathlib.Core.Bool.{Bool, true}
 use mathlib.Core.List.{List, [], _∷_}
-use mathlib.Core.Option.{Option, some}
+use mathlib.Core.Option.{some}
 use Prim.Native.Nat.{ℕ, _<_, _^_}
 use lib.Dec.{ltb}
 use lib.IntN.{pos, negℤ}

@@ -1,10 +1,8 @@
 -- Document 01, "The listing": the text of a value, its members in the order in which it holds them.
-use mathlib.Core.Path.{_≡_, refl}
 use mathlib.Core.Bool.{Bool, true, false, cond}
 use mathlib.Core.List.{List, [], _∷_, _++_}
 use Prim.Native.Nat.{ℕ, zero, suc, _+_, _/_, _%_}
 use lib.Dec.{ltb}
-use lib.IntN.{pos, negsuc}
 use Rattle.ground.specs.Bytes.{bytes}
 use Rattle.ground.specs.Lists.{joined}
 use Rattle.decimals.specs.Decimal.{decimal, signedDecimal}
