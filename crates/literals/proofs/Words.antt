@@ -84,7 +84,7 @@ member-value members most i row first size range n e f s c k l h g =
     (s ∙ ap (λ (ws : List ℕ). word ws i 4) (sym h))
 
 -- the row that a search found holds a member
-member-place : (l : Lent) (name : List ℕ) (row : ℕ) → memberRow (tablesOf l) name ≡ some row → at (tablesOf l .members) row ≡ some (memberAt l row)
+pub member-place : (l : Lent) (name : List ℕ) (row : ℕ) → memberRow (tablesOf l) name ≡ some row → at (tablesOf l .members) row ≡ some (memberAt l row)
 unfolding memberRow tablesOf
 member-place l name row e =
     let h = find-within (λ (m : Member). sameText name (m .name)) (tablesOf l .members) row e in

@@ -19,7 +19,7 @@ ghost use Rattle.literals.specs.Parts.{WidthOf, IndexedOf};
 // The sign that one number may begin with.
 const PLUS: u8 = 43;
 
-fn parse_number(digits: &[u8]) -> Parsed
+pub fn parse_number(digits: &[u8]) -> Parsed
     ensures { λ r. ⌜ r ≡ parsed Radix.Decimal (unsigned (now (digits .entry))) ⌝ }
 {
     if digits.len() == 0 {

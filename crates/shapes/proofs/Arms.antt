@@ -1,23 +1,21 @@
 -- One law for each way out of the matching of words and counts.
 -- Assumes nothing.
 use mathlib.Core.Path.{_≡_, refl, sym, ap, _∙_, subst}
-use mathlib.Core.Bool.{Bool, true, false, cond, true≢false}
-use mathlib.Core.List.{List, [], _∷_}
-use Prim.Native.Nat.{ℕ, suc, _+_, _%_, _^_}
+use mathlib.Core.Bool.{Bool, true, false, true≢false}
+use mathlib.Core.List.{List}
+use Prim.Native.Nat.{ℕ, _%_, _^_}
 use Prim.Native.String.{String}
-use native.Mathlib.Omega.{arith}
 use lib.Dec.{eqb}
 use Rattle.ground.specs.Bytes.{bytes}
 use Rattle.arena.specs.Node.{afterAt}
-use Rattle.arena.specs.Text.{sameText, textIs}
+use Rattle.arena.specs.Text.{textIs}
 use Rattle.arena.specs.Tree.{Tree, Trees, bitVec, numeral, string, symbol, app, nil, cons}
 use Rattle.shapes.specs.declared.shape.Found.{Found}
 use Rattle.shapes.specs.declared.shape.Kind.{Kind}
-use Rattle.shapes.specs.declared.look.Word.{Word}
 use Rattle.shapes.specs.declared.look.Wide.{Wide}
-use Rattle.shapes.specs.Shape.{Shape, operator, asNone, asEmpty, someOf, singleton, union, extension, made, is, onSymbol, onNumeral, onBitVec, extShape, extOr, one, two, pairShape, indexShape}
-use Rattle.shapes.specs.Shows.{Standing, StandingAll, Reads, Shows, extOf, OneAt, TwoAt, IndexAt, WordAt, WideAt}
-use Rattle.shapes.proofs.Stood.{first-of, others-of, said-so, said-name}
+use Rattle.shapes.specs.Shape.{Shape, singleton, union, made, is, onSymbol, onNumeral, onBitVec, onApp, extShape, one, two, pairShape}
+use Rattle.shapes.specs.Shows.{Standing, Reads, Shows, OneAt, TwoAt, WideAt}
+use Rattle.shapes.proofs.Stood.{first-of, others-of, said-so}
 
 -- a tree that is of another kind
 pub not-symbol {ℓ} : {A : Type ℓ} (a : Tree) (d : A) (k : List ℕ → A) → onSymbol a false (λ s. true) ≡ false → onSymbol a d k ≡ d
@@ -33,6 +31,13 @@ not-numeral (numeral n) d k e = absurd (true≢false e)
 not-numeral (string s) d k e = refl
 not-numeral (symbol s) d k e = refl
 not-numeral (app us) d k e = refl
+
+pub not-app {ℓ} : {A : Type ℓ} (a : Tree) (d : A) (k : Trees → A) → onApp a false (λ us. true) ≡ false → onApp a d k ≡ d
+not-app (bitVec w n) d k e = refl
+not-app (numeral n) d k e = refl
+not-app (string s) d k e = refl
+not-app (symbol s) d k e = refl
+not-app (app us) d k e = absurd (true≢false e)
 
 not-wide : (f : List ℕ) (a : Tree) → onBitVec a false (λ w n. eqb w 64) ≡ false → extShape f a ≡ made f (cons a nil)
 not-wide f (bitVec w n) e = rw e

@@ -1,28 +1,25 @@
 -- Applications by their count of arguments, and by their heads.
 -- Assumes nothing.
 use mathlib.Core.Path.{_≡_, refl, sym, ap, _∙_, subst}
-use mathlib.Core.Bool.{Bool, true, false, cond, true≢false, _&&_}
-use mathlib.Core.List.{List, [], _∷_}
-use Prim.Native.Nat.{ℕ, suc, _+_, _-_, _*_, _^_, _/_, _<_}
+use mathlib.Core.Bool.{Bool, true, false, cond, true≢false}
+use mathlib.Core.List.{List}
+use Prim.Native.Nat.{ℕ, suc, _+_, _-_}
 use native.Mathlib.Omega.{arith}
-use lib.ListN.{length}
 use Rattle.ground.specs.Bytes.{bytes}
 use Rattle.arena.specs.declared.node.Node.{Node}
-use Rattle.arena.specs.declared.node.Node.the-variants.{BitVec, Numeral, String, Symbol, App, NoNode}
-use Rattle.arena.specs.Layout.{stride}
+use Rattle.arena.specs.declared.node.Node.the-variants.{Symbol, App}
 use Rattle.arena.specs.Node.{nodeAt, afterAt}
-use Rattle.arena.specs.Text.{textAt, sameText, textIs}
+use Rattle.arena.specs.Text.{textIs}
 use Rattle.arena.specs.Tree.{Tree, Trees, bitVec, numeral, string, symbol, app, nil, cons, count}
-use Rattle.arena.proofs.Layouts.{stands-after}
 use Rattle.arena.proofs.Views.{after-of}
 use Rattle.shapes.specs.declared.shape.Found.{Found}
 use Rattle.shapes.specs.declared.look.Word.{Word}
 use Rattle.shapes.specs.declared.look.Parts.{Parts}
-use Rattle.shapes.specs.Shape.{Shape, operator, asSome, made, other, onSymbol, onApp, one, two, three, applied, someShape, headed, shape}
+use Rattle.shapes.specs.Shape.{Shape, asSome, other, onSymbol, one, two, three, someShape, shape}
 use Rattle.shapes.specs.Shows.{Standing, StandingAll, Reads, Shows, OneAt, TwoAt, AppliedAt, HeadedAt, ByHeadAt, ShapeAt, WordAt, PartsAt}
-use Rattle.shapes.proofs.Looks.{kind, kindOf, kinds, symbol-there, list-there, children-of}
+use Rattle.shapes.proofs.Looks.{kind, kinds, symbol-there, list-there, children-of}
 use Rattle.shapes.proofs.Stood.{first-of, others-of, said-so}
-use Rattle.shapes.proofs.Arms.{not-symbol, shown-as}
+use Rattle.shapes.proofs.Arms.{not-symbol}
 
 module _ (ws ts : List ℕ) (offset size first many : ℕ) where
   pub applied-one : (q : Found) → many ≡ 1 → OneAt one ws ts offset size first q → AppliedAt ws ts offset size first many q
@@ -176,9 +173,6 @@ module _ (ws ts : List ℕ) (i : ℕ) (p : Parts) (h : PartsAt ws i p) where
   shape-none e us s = absurd (true≢false (subst (λ (x : Parts). PartsAt ws i x) e h ts (app us) s))
 
   module _ (many : ℕ) (e : p ≡ Parts.Children many) where
-    pub children-within : i < length ws / stride
-    children-within = subst (λ (x : Parts). PartsAt ws i x) e h .0
-
     children : (us : Trees) → Standing (app us) ws ts i → StandingAll us ws ts (i + 1) many
     children us s = children-of ws ts i many (subst (λ (x : Parts). PartsAt ws i x) e h) us s
 

@@ -1,5 +1,6 @@
 pub mod Looks
 pub mod Stood
+pub mod Seen
 pub mod Arms
 pub mod Pairs
 pub mod Heads

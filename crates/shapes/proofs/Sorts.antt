@@ -1,25 +1,23 @@
 -- One law for each way out of the matching of a written sort.
 -- Assumes nothing.
 use mathlib.Core.Path.{_≡_, refl, sym, ap, _∙_, subst}
-use mathlib.Core.Bool.{Bool, true, false, cond, true≢false, _&&_}
+use mathlib.Core.Bool.{true, false}
 use mathlib.Core.List.{List}
-use Prim.Native.Nat.{ℕ, suc, _+_, _*_, _^_, _/_, _<_}
+use Prim.Native.Nat.{ℕ, suc, _+_, _*_, _^_}
 use native.Mathlib.Omega.{arith}
-use lib.ListN.{length}
 use Rattle.ground.specs.Bytes.{bytes}
-use Rattle.arena.specs.Layout.{stride}
 use Rattle.arena.specs.Node.{afterAt}
-use Rattle.arena.specs.Text.{sameText, textIs}
-use Rattle.arena.specs.Tree.{Tree, Trees, bitVec, numeral, string, symbol, app, nil, cons}
+use Rattle.arena.specs.Text.{textIs}
+use Rattle.arena.specs.Tree.{Tree, Trees, numeral, symbol, nil, cons}
 use Rattle.shapes.specs.declared.sort.SortFound.{SortFound}
 use Rattle.shapes.specs.declared.look.Word.{Word}
 use Rattle.shapes.specs.declared.look.Index.{Index}
 use Rattle.shapes.specs.declared.look.Parts.{Parts}
-use Rattle.shapes.specs.Shape.{onSymbol, onNumeral, onApp}
+use Rattle.shapes.specs.Shape.{onApp}
 use Rattle.shapes.specs.Shows.{Standing, StandingAll, Reads, WordAt, IndexOf, PartsAt}
-use Rattle.shapes.specs.SortShape.{SortShape, noSort, widthOf, sortOne, sortTwo, sortApplied, sortList, sortShape, SortShows, SortShapeAt, SortListAt, SortOneAt, SortTwoAt}
+use Rattle.shapes.specs.SortShape.{SortShape, noSort, sortTwo, sortApplied, sortList, sortShape, SortShows, SortShapeAt, SortListAt, SortOneAt, SortTwoAt}
 use Rattle.shapes.proofs.Stood.{first-of, others-of, said-so}
-use Rattle.shapes.proofs.Arms.{not-symbol, not-numeral}
+use Rattle.shapes.proofs.Arms.{not-symbol, not-numeral, not-app}
 
 module _ (ws ts : List ℕ) (offset size first : ℕ) where
   pub one-option : textIs ts offset size (bytes "Option") ≡ true → SortOneAt ws ts offset size first (SortFound.OptionOf first)
@@ -121,18 +119,8 @@ module _ (ws ts : List ℕ) (i : ℕ) (w : Word) (h : WordAt ws i w) where
     unfolding sortShape
     no-word t s = not-symbol t _ _ (subst (λ (x : Word). WordAt ws i x) e h ts t s)
 
-    no-app : (t : Tree) → onApp t false (λ us. true) ≡ false → onApp t noSort sortList ≡ noSort
-    no-app (bitVec w n) d = refl
-    no-app (numeral n) d = refl
-    no-app (string s) d = refl
-    no-app (symbol s) d = refl
-    no-app (app us) d = absurd (true≢false d)
-
     pub sort-atom : p ≡ Parts.NoList → SortShapeAt ws ts i SortFound.NoSort
-    sort-atom d t s = no-word t s ∙ no-app t (subst (λ (x : Parts). PartsAt ws i x) d k ts t s)
-
-    pub sort-within : (many : ℕ) → p ≡ Parts.Children many → i < length ws / stride
-    sort-within many d = subst (λ (x : Parts). PartsAt ws i x) d k .0
+    sort-atom d t s = no-word t s ∙ not-app t _ _ (subst (λ (x : Parts). PartsAt ws i x) d k ts t s)
 
     pub sort-parts : (many : ℕ) → p ≡ Parts.Children many → (q : SortFound) → SortListAt ws ts (i + 1) many q → SortShapeAt ws ts i q
     sort-parts many d q l t s =

@@ -3,6 +3,10 @@ mod look;
 mod shape;
 mod sort;
 
+pub use look::Parts;
+pub use look::Word;
+pub use look::list_at;
+pub use look::symbol_at;
 pub use shape::Found;
 pub use shape::Kind;
 pub use shape::shape_at;

@@ -1,6 +1,7 @@
 use mathlib.Core.Path.{sym, _∙_}
 use native.Mathlib.Omega.{arith}
-use Rattle.shapes.proofs.Heads.{shape-none, shape-empty, shape-head, children-within}
+use Rattle.shapes.proofs.Heads.{shape-none, shape-empty, shape-head}
+use Rattle.shapes.proofs.Seen.{list-within}
 use borrow.Author.Needs.{needs}
 use Rattle.shapes.proofs.shape.shape_at.Statement.{statement}
 use Rattle.shapes.proofs.shape.shape_at.Tie as tie
@@ -31,7 +32,7 @@ returns-2 c = shape-empty (c .before .before .before .before .before .before .be
 
 -- src/shape.rt:235:26
 add-by-head : tie.Need-add-by-head
-add-by-head c = record { fits = omega (arith, children-within (c .before .before .before .before .before .before .before .args .nodes .now) (c .before .before .before .before .before .before .before .args .text .now) (c .before .before .before .before .before .before .before .args .at) _ (c .before .before .before .before .list-at .ensures) _ (c .before .before .list .given .1)) }
+add-by-head c = record { fits = omega (arith, list-within (c .before .before .before .before .before .before .before .args .nodes .now) (c .before .before .before .before .before .before .before .args .at) _ (c .before .before .before .before .list-at .ensures) _ (c .before .before .list .given .1)) }
 
 -- src/shape.rt:235:34
 sub-by-head : tie.Need-sub-by-head

@@ -1,6 +1,7 @@
 use mathlib.Core.Path.{sym, _∙_}
 use native.Mathlib.Omega.{arith}
-use Rattle.shapes.proofs.Sorts.{sort-word, sort-atom, sort-within, sort-parts}
+use Rattle.shapes.proofs.Sorts.{sort-word, sort-atom, sort-parts}
+use Rattle.shapes.proofs.Seen.{list-within}
 use borrow.Author.Needs.{needs}
 use Rattle.shapes.proofs.sort.sort_shape_at.Statement.{statement}
 use Rattle.shapes.proofs.sort.sort_shape_at.Tie as tie
@@ -40,7 +41,7 @@ returns c = sort-atom (c .before .before .before .before .before .before .before
 
 -- src/sort.rt:87:36
 add-sort-list : tie.Need-add-sort-list
-add-sort-list c = record { fits = omega (arith, sort-within (c .before .before .before .before .before .before .before .before .before .args .nodes .now) (c .before .before .before .before .before .before .before .before .before .args .text .now) (c .before .before .before .before .before .before .before .before .before .args .at) _ (c .before .before .before .before .before .before .symbol-at .ensures) (c .before .before .before .before .enum-told .given .1) _ (c .before .before .before .list-at .ensures) _ (c .before .list .given .1)) }
+add-sort-list c = record { fits = omega (arith, list-within (c .before .before .before .before .before .before .before .before .before .args .nodes .now) (c .before .before .before .before .before .before .before .before .before .args .at) _ (c .before .before .before .list-at .ensures) _ (c .before .list .given .1)) }
 
 -- src/sort.rt:87:13
 sort-list-requires : tie.Need-sort-list-requires

@@ -1,0 +1,178 @@
+-- One law for each way out of the matching of a command.
+-- Assumes nothing.
+use mathlib.Core.Path.{_≡_, refl, sym, subst}
+use mathlib.Core.Bool.{true, false}
+use mathlib.Core.List.{List}
+use Prim.Native.Nat.{ℕ, _+_}
+use native.Mathlib.Omega.{arith}
+use Rattle.ground.specs.Bytes.{bytes}
+use Rattle.arena.specs.Node.{afterAt}
+use Rattle.arena.specs.Text.{textIs}
+use Rattle.arena.specs.Tree.{Tree, Trees, symbol, app, nil, cons}
+use Rattle.shapes.specs.declared.look.Word.{Word}
+use Rattle.shapes.specs.declared.look.Parts.{Parts}
+use Rattle.shapes.specs.Shows.{Standing, StandingAll, Reads, WordAt, PartsAt}
+use Rattle.shapes.proofs.Stood.{first-of, others-of, said-so}
+use Rattle.shapes.proofs.Seen.{not-word, by-word, not-list, by-list}
+use Rattle.shapes.proofs.Arms.{not-symbol, not-app}
+use Rattle.commands.specs.declared.command.CommandFound.{CommandFound}
+use Rattle.commands.specs.Command.{Command, misshapen, argument, arguments, parts, command}
+use Rattle.commands.specs.CommandShows.{CommandShows, CommandAt, FiveAt, ArgumentsAt, ArgumentAt}
+
+-- (ARG SORT)
+module _ (ws : List ℕ) (size offset first sort body : ℕ) (w : Word) (h : WordAt ws first w) where
+  pub argument-none : w ≡ Word.NoSymbol → ArgumentAt ws size offset first sort body CommandFound.Misshapen
+  argument-none e ts name x a t b r s p q = not-symbol x _ _ (not-word ws first w h ts e x (first-of ws ts x (cons a nil) first 2 s))
+
+  pub argument-word : (long off : ℕ) → w ≡ Word.Symbol long off → (second : ℕ) → second ≡ afterAt ws first →
+      ArgumentAt ws size offset first sort body (CommandFound.Function size offset long off second sort body)
+  argument-word long off e second here ts name x a t b r s p q =
+      let o = first-of ws ts a nil second 1 (others-of ws ts x (cons a nil) first 2 s second 1 here refl) in
+      by-word ws first w h ts long off e
+      (λ (y : Tree). CommandShows ws ts (CommandFound.Function size offset long off second sort body) (argument name (cons y (cons a nil)) t b))
+      (λ f g. (name, f, a, t, b, refl, r, g, o, p, q)) x (first-of ws ts x (cons a nil) first 2 s)
+
+-- () or ((ARG SORT))
+module _ (ws : List ℕ) (size offset first many sort body : ℕ) where
+  pub arguments-none : many ≡ 0 → ArgumentsAt ws size offset first many sort body (CommandFound.Variable size offset sort body)
+  arguments-none z ts name nil t b r s p q = (name, t, b, refl, r, p, q)
+  arguments-none z ts name (cons a us) t b r s p q = let c = s .many-are in absurd (omega arith)
+
+  pub arguments-many : (many ≡ 0 → ⊥) → (many ≡ 1 → ⊥) → ArgumentsAt ws size offset first many sort body CommandFound.Misshapen
+  arguments-many z o ts name nil t b r s p q = absurd (z (s .many-are))
+  arguments-many z o ts name (cons a nil) t b r s p q = absurd (o (s .many-are))
+  arguments-many z o ts name (cons a (cons c us)) t b r s p q = refl
+
+  module _ (one : many ≡ 1) where
+    -- it is enough to look at one tree
+    by-one : (f : CommandFound) →
+        ((ts name : List ℕ) (a t b : Tree) → Reads name ts offset size → Standing a ws ts first → Standing t ws ts sort → Standing b ws ts body → CommandShows ws ts f (arguments name (cons a nil) t b)) →
+        ArgumentsAt ws size offset first many sort body f
+    by-one f k ts name nil t b r s p q = let c = s .many-are in absurd (omega arith)
+    by-one f k ts name (cons a nil) t b r s p q = k ts name a t b r (first-of ws ts a nil first many s) p q
+    by-one f k ts name (cons a (cons c us)) t b r s p q = let c = s .many-are in absurd (omega arith)
+
+    module _ (l : Parts) (h : PartsAt ws first l) where
+      pub arguments-atom : l ≡ Parts.NoList → ArgumentsAt ws size offset first many sort body CommandFound.Misshapen
+      arguments-atom e = by-one CommandFound.Misshapen (λ ts name a t b r s p q. not-app a _ _ (not-list ws first l h e ts a s))
+
+      module _ (inside : ℕ) (e : l ≡ Parts.Children inside) where
+        not-two : (ts name : List ℕ) (us : Trees) (t b : Tree) → (inside ≡ 2 → ⊥) → StandingAll us ws ts (first + 1) inside → argument name us t b ≡ misshapen
+        not-two ts name nil t b z s = refl
+        not-two ts name (cons x nil) t b z s = refl
+        not-two ts name (cons x (cons a nil)) t b z s = absurd (z (s .many-are))
+        not-two ts name (cons x (cons a (cons u us))) t b z s = refl
+
+        pub arguments-parts : (inside ≡ 2 → ⊥) → ArgumentsAt ws size offset first many sort body CommandFound.Misshapen
+        arguments-parts z =
+            by-one CommandFound.Misshapen
+            (λ ts name a t b r s p q. by-list ws first l h inside e ts (λ (x : Tree). arguments name (cons x nil) t b ≡ misshapen) (λ us g. not-two ts name us t b z g) a s)
+
+        pub arguments-argument : inside ≡ 2 → (f : CommandFound) → ArgumentAt ws size offset (first + 1) sort body f → ArgumentsAt ws size offset first many sort body f
+        arguments-argument z f k =
+            by-one f
+            (λ ts name a t b r s p q. by-list ws first l h inside e ts (λ (x : Tree). CommandShows ws ts f (arguments name (cons x nil) t b)) (λ us g. two ts name us t b r g p q) a s)
+          where
+            two : (ts name : List ℕ) (us : Trees) (t b : Tree) → Reads name ts offset size → StandingAll us ws ts (first + 1) inside → Standing t ws ts sort → Standing b ws ts body → CommandShows ws ts f (argument name us t b)
+            two ts name nil t b r s p q = let c = s .many-are in absurd (omega arith)
+            two ts name (cons x nil) t b r s p q = let c = s .many-are in absurd (omega arith)
+            two ts name (cons x (cons a nil)) t b r s p q = k ts name x a t b r (subst (λ (n : ℕ). StandingAll (cons x (cons a nil)) ws ts (first + 1) n) z s) p q
+            two ts name (cons x (cons a (cons u us))) t b r s p q = let c = s .many-are in absurd (omega arith)
+
+-- the five parts
+module _ (ws ts : List ℕ) (first : ℕ) where
+  abbrev All : Tree → Tree → Tree → Tree → Tree → Trees
+  All a b c d e = cons a (cons b (cons c (cons d (cons e nil))))
+
+  module _ (w : Word) (h : WordAt ws first w) where
+    pub five-none : w ≡ Word.NoSymbol → FiveAt ws ts first CommandFound.Misshapen
+    five-none q a b c d e s = not-symbol a _ _ (not-word ws first w h ts q a (first-of ws ts a (cons b (cons c (cons d (cons e nil)))) first 5 s))
+
+    module _ (long off : ℕ) (q : w ≡ Word.Symbol long off) (second : ℕ) (here : second ≡ afterAt ws first) where
+      -- as for a word, and the four parts behind it
+      by-first : (f : CommandFound) →
+          ((word : List ℕ) (b c d e : Tree) → Reads word ts off long → StandingAll (cons b (cons c (cons d (cons e nil)))) ws ts second 4 → CommandShows ws ts f (parts (All (symbol word) b c d e))) →
+          FiveAt ws ts first f
+      by-first f k a b c d e s =
+          let o = others-of ws ts a (cons b (cons c (cons d (cons e nil)))) first 5 s second 4 here refl in
+          by-word ws first w h ts long off q (λ (x : Tree). CommandShows ws ts f (parts (All x b c d e)))
+          (λ word r. k word b c d e r o) a (first-of ws ts a (cons b (cons c (cons d (cons e nil)))) first 5 s)
+
+      module _ (v : Word) (m : WordAt ws second v) where
+        pub five-unnamed : v ≡ Word.NoSymbol → FiveAt ws ts first CommandFound.Misshapen
+        five-unnamed z =
+            by-first CommandFound.Misshapen
+            (λ word b c d e r s. not-symbol b _ _ (not-word ws second v m ts z b (first-of ws ts b (cons c (cons d (cons e nil))) second 4 s)))
+
+        module _ (size offset : ℕ) (z : v ≡ Word.Symbol size offset) (third : ℕ) (there : third ≡ afterAt ws second) where
+          by-name : (f : CommandFound) →
+              ((word name : List ℕ) (c d e : Tree) → Reads word ts off long → Reads name ts offset size → StandingAll (cons c (cons d (cons e nil))) ws ts third 3 →
+              CommandShows ws ts f (parts (All (symbol word) (symbol name) c d e))) →
+              FiveAt ws ts first f
+          by-name f k =
+              by-first f
+              (λ word b c d e r s. by-word ws second v m ts size offset z (λ (x : Tree). CommandShows ws ts f (parts (All (symbol word) x c d e)))
+              (λ name g. k word name c d e r g (others-of ws ts b (cons c (cons d (cons e nil))) second 4 s third 3 there refl)) b (first-of ws ts b (cons c (cons d (cons e nil))) second 4 s))
+
+          module _ (l : Parts) (n : PartsAt ws third l) where
+            pub five-atom : l ≡ Parts.NoList → FiveAt ws ts first CommandFound.Misshapen
+            five-atom y =
+                by-name CommandFound.Misshapen
+                (λ word name c d e r g s. not-app c _ _ (not-list ws third l n y ts c (first-of ws ts c (cons d (cons e nil)) third 3 s)))
+
+            module _ (many : ℕ) (y : l ≡ Parts.Children many) where
+              by-arguments : (f : CommandFound) →
+                  ((word name : List ℕ) (us : Trees) (d e : Tree) → Reads word ts off long → Reads name ts offset size → StandingAll us ws ts (third + 1) many →
+                  ((fourth : ℕ) → fourth ≡ afterAt ws third → StandingAll (cons d (cons e nil)) ws ts fourth 2) →
+                  CommandShows ws ts f (parts (All (symbol word) (symbol name) (app us) d e))) →
+                  FiveAt ws ts first f
+              by-arguments f k =
+                  by-name f
+                  (λ word name c d e r g s. by-list ws third l n many y ts (λ (x : Tree). CommandShows ws ts f (parts (All (symbol word) (symbol name) x d e)))
+                  (λ us o. k word name us d e r g o (λ fourth u. others-of ws ts c (cons d (cons e nil)) third 3 s fourth 2 u refl)) c (first-of ws ts c (cons d (cons e nil)) third 3 s))
+
+              pub five-other : textIs ts off long (bytes "define-fun") ≡ false → FiveAt ws ts first CommandFound.Misshapen
+              five-other t = by-arguments CommandFound.Misshapen (λ word name us d e r g s o. rw (said-so ts off long word r (bytes "define-fun") false t))
+
+              pub five-arguments : textIs ts off long (bytes "define-fun") ≡ true → (sort : ℕ) → sort ≡ afterAt ws third → (body : ℕ) → body ≡ afterAt ws sort →
+                  (f : CommandFound) → ArgumentsAt ws size offset (third + 1) many sort body f → FiveAt ws ts first f
+              five-arguments t sort u body v f k =
+                  by-arguments f
+                  (λ word name us d e r g s o.
+                  let p = o sort u in
+                  let same : parts (All (symbol word) (symbol name) (app us) d e) ≡ arguments name us d e = rw (said-so ts off long word r (bytes "define-fun") true t) in
+                  subst (λ (x : Command). CommandShows ws ts f x) (sym same)
+                  (k ts name us d e g s (first-of ws ts d (cons e nil) sort 2 p) (first-of ws ts e nil body 1 (others-of ws ts d (cons e nil) sort 2 p body 1 v refl))))
+
+-- the whole
+module _ (ws ts : List ℕ) (i : ℕ) (l : Parts) (h : PartsAt ws i l) where
+  pub command-atom : l ≡ Parts.NoList → CommandAt ws ts i CommandFound.Misshapen
+  unfolding command
+  command-atom e t s = not-app t _ _ (not-list ws i l h e ts t s)
+
+  module _ (many : ℕ) (e : l ≡ Parts.Children many) where
+    not-five : (us : Trees) → (many ≡ 5 → ⊥) → StandingAll us ws ts (i + 1) many → parts us ≡ misshapen
+    not-five nil z s = refl
+    not-five (cons a nil) z s = refl
+    not-five (cons a (cons b nil)) z s = refl
+    not-five (cons a (cons b (cons c nil))) z s = refl
+    not-five (cons a (cons b (cons c (cons d nil)))) z s = refl
+    not-five (cons a (cons b (cons c (cons d (cons f nil))))) z s = absurd (z (s .many-are))
+    not-five (cons a (cons b (cons c (cons d (cons f (cons g us)))))) z s = refl
+
+    pub command-parts : (many ≡ 5 → ⊥) → CommandAt ws ts i CommandFound.Misshapen
+    unfolding command
+    command-parts z t s = by-list ws i l h many e ts (λ (x : Tree). command x ≡ misshapen) (λ us g. not-five us z g) t s
+
+    all-five : (f : CommandFound) (us : Trees) → many ≡ 5 → FiveAt ws ts (i + 1) f → StandingAll us ws ts (i + 1) many → CommandShows ws ts f (parts us)
+    all-five f nil z k s = let c = s .many-are in absurd (omega arith)
+    all-five f (cons a nil) z k s = let c = s .many-are in absurd (omega arith)
+    all-five f (cons a (cons b nil)) z k s = let c = s .many-are in absurd (omega arith)
+    all-five f (cons a (cons b (cons c nil))) z k s = let c = s .many-are in absurd (omega arith)
+    all-five f (cons a (cons b (cons c (cons d nil)))) z k s = let c = s .many-are in absurd (omega arith)
+    all-five f (cons a (cons b (cons c (cons d (cons g nil))))) z k s = k a b c d g (subst (λ (n : ℕ). StandingAll (cons a (cons b (cons c (cons d (cons g nil))))) ws ts (i + 1) n) z s)
+    all-five f (cons a (cons b (cons c (cons d (cons g (cons x us)))))) z k s = let c = s .many-are in absurd (omega arith)
+
+    pub command-five : many ≡ 5 → (f : CommandFound) → FiveAt ws ts (i + 1) f → CommandAt ws ts i f
+    unfolding command
+    command-five z f k t s = by-list ws i l h many e ts (λ (x : Tree). CommandShows ws ts f (command x)) (λ us g. all-five f us z k g) t s

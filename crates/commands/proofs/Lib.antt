@@ -1,0 +1,4 @@
+pub mod Commands
+pub mod Links
+pub mod Tests
+pub mod Keys

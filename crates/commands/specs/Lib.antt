@@ -1,0 +1,4 @@
+pub mod Command
+pub mod CommandShows
+pub mod LinkShows
+pub mod TestShows

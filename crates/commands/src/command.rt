@@ -1,0 +1,136 @@
+// A command's parts are taken out one after the other; the first that is not there makes the command misshapen.
+use arena::after;
+use arena::text_is;
+use shapes::Parts;
+use shapes::Word;
+use shapes::list_at;
+use shapes::symbol_at;
+ghost use Rattle.commands.specs.CommandShows.{CommandAt, FiveAt, ArgumentsAt, ArgumentAt};
+
+// A command, with its names' texts and the nodes of its other parts.
+pub enum CommandFound {
+    Variable {
+        length: u64,
+        offset: u64,
+        sort: usize,
+        value: usize,
+    },
+    Function {
+        length: u64,
+        offset: u64,
+        arg_length: u64,
+        arg_offset: u64,
+        arg_sort: usize,
+        sort: usize,
+        body: usize,
+    },
+    Misshapen,
+}
+
+// (ARG SORT), its two parts from a node on; the name's text, the sort and the body are known.
+fn argument(
+    nodes: &[u64],
+    length: u64,
+    offset: u64,
+    first: usize,
+    sort: usize,
+    body: usize,
+) -> CommandFound
+    ensures { λ r. ⌜ ArgumentAt (now (nodes .entry)) length offset first sort body r ⌝ }
+{
+    let word = symbol_at(nodes, first);
+    let Word::Symbol {
+        length: arg_length,
+        offset: arg_offset,
+    } = word
+    else {
+        return CommandFound::Misshapen;
+    };
+    let arg_sort = after(nodes, first);
+    CommandFound::Function {
+        length,
+        offset,
+        arg_length,
+        arg_offset,
+        arg_sort,
+        sort,
+        body,
+    }
+}
+
+// () or ((ARG SORT)), so many parts from a node on.
+fn arguments(
+    nodes: &[u64],
+    length: u64,
+    offset: u64,
+    first: usize,
+    count: u64,
+    sort: usize,
+    body: usize,
+) -> CommandFound
+    ensures { λ r. ⌜ ArgumentsAt (now (nodes .entry)) length offset first count sort body r ⌝ }
+{
+    if count == 0 {
+        return CommandFound::Variable {
+            length,
+            offset,
+            sort,
+            value: body,
+        };
+    }
+    if count != 1 {
+        return CommandFound::Misshapen;
+    }
+    let list = list_at(nodes, first);
+    let Parts::Children(parts) = list else {
+        return CommandFound::Misshapen;
+    };
+    if parts != 2 {
+        return CommandFound::Misshapen;
+    }
+    argument(nodes, length, offset, first + 1, sort, body)
+}
+
+// The five parts of a command from a node on.
+fn five(nodes: &[u64], text: &[u8], first: usize) -> CommandFound
+    ensures { λ r. ⌜ FiveAt (now (nodes .entry)) (now (text .entry)) first r ⌝ }
+{
+    let word = symbol_at(nodes, first);
+    let Word::Symbol {
+        length: long,
+        offset: off,
+    } = word
+    else {
+        return CommandFound::Misshapen;
+    };
+    let second = after(nodes, first);
+    let name = symbol_at(nodes, second);
+    let Word::Symbol { length, offset } = name else {
+        return CommandFound::Misshapen;
+    };
+    let third = after(nodes, second);
+    let list = list_at(nodes, third);
+    let Parts::Children(count) = list else {
+        return CommandFound::Misshapen;
+    };
+    if text_is(text, off, long, b"define-fun") {
+        let sort = after(nodes, third);
+        let body = after(nodes, sort);
+        return arguments(nodes, length, offset, third + 1, count, sort, body);
+    }
+    CommandFound::Misshapen
+}
+
+// The command at a node.
+pub fn command_at(nodes: &[u64], text: &[u8], at: usize) -> CommandFound
+    ensures { λ r. ⌜ CommandAt (now (nodes .entry)) (now (text .entry)) at r ⌝ }
+{
+    let list = list_at(nodes, at);
+    let Parts::Children(count) = list else {
+        return CommandFound::Misshapen;
+    };
+    if count != 5 {
+        return CommandFound::Misshapen;
+    }
+    five(nodes, text, at + 1)
+}

@@ -1,0 +1,6 @@
+pub mod Measures
+pub mod Variables
+pub mod Arms
+pub mod Chains
+pub mod Tests
+pub mod Functions

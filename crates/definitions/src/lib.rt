@@ -1,0 +1,9 @@
+// Whether a definition is right, and how long its text is.
+mod body;
+mod function;
+mod measure;
+mod variable;
+
+pub use function::check_function;
+pub use measure::Measured;
+pub use variable::check_variable;

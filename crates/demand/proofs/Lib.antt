@@ -1,0 +1,14 @@
+pub mod Shapes
+pub mod Free
+pub mod Decisions
+pub mod Looks
+pub mod Literals
+pub mod Bodies
+pub mod Tables
+pub mod Commands
+pub mod Settled
+pub mod Theorem
+pub mod Premises
+pub mod Lines
+pub mod Listings
+pub mod Tells

@@ -1,0 +1,9 @@
+pub mod Equal
+pub mod Mention
+pub mod Meaning
+pub mod Examples
+pub mod Lookup
+pub mod Last
+pub mod Premise
+pub mod Demand
+pub mod Alike

@@ -1,0 +1,105 @@
+-- Document 01, "The model walk", bodies, for demand 3: what SMT-LIB's `ite`, `=` and `or` give a body at an argument's value, literals read as in document 01. No table of arms is mentioned.
+use mathlib.Core.Bool.{Bool, false, cond, _||_}
+use mathlib.Core.List.{List, [], _∷_}
+use mathlib.Core.Option.{Option, none, some}
+use Prim.Native.Nat.{ℕ}
+use Rattle.arena.specs.Tree.{Tree, Trees, bitVec, numeral, string, symbol, app, nil, cons}
+use Rattle.tables.specs.Sort.{Tables}
+use Rattle.shapes.specs.Shape.{is, onSymbol}
+use Rattle.sorts.specs.Result.{Result, ok, refused}
+use Rattle.sorts.specs.Sort.{levels}
+use Rattle.values.specs.Normal.{normal}
+use Rattle.values.specs.Value.{Value, vBool, vString, vExt, vBits, vNone, vSome, vSet, vEntity, vRecord}
+use Rattle.literals.specs.Literal.{Lit, read}
+use Rattle.demand.specs.Equal.{decided, equal}
+use Rattle.demand.specs.Mention.{sameName, mentions}
+
+-- what a term means, if anything, given the row of the sort that is expected of it, if one is
+abbrev pub Meant : Type 0
+Meant = Option ℕ → Option Value
+
+-- a literal's value: its sets in order and without repeats, so that equal values are one
+abbrev pub valueOf : Result Lit → Option Value
+valueOf (ok l) = some (normal (l .value))
+valueOf (refused r) = none
+
+-- a literal has its value where the argument is not in it
+abbrev pub literal : Tables → List ℕ → Tree → Meant
+literal T x t e = cond (mentions t x) none (valueOf (read T levels e t))
+
+-- a term means something only where each of its parts does
+abbrev pub on : {A B : Type 0} → Option A → (A → Option B) → Option B
+on none f = none
+on (some a) f = f a
+
+abbrev pub truthOf : Value → Option Bool
+truthOf (vBool b) = some b
+truthOf (vString s) = none
+truthOf (vExt e z) = none
+truthOf (vBits w n) = none
+truthOf vNone = none
+truthOf (vSome v) = none
+truthOf (vSet vs) = none
+truthOf (vEntity row s) = none
+truthOf (vRecord row vs) = none
+
+-- SMT-LIB's `ite`, `=` and `or` of two
+abbrev pub chosen : Option Value → Option Value → Option Value → Option Value
+chosen c a b = on c (λ t. on (truthOf t) (λ h. on a (λ v. on b (λ w. some (cond h v w)))))
+
+abbrev pub equals : Option Value → Option Value → Option Value
+equals a b = on a (λ v. on b (λ w. some (vBool (decided (equal v w)))))
+
+abbrev pub either : Option Value → Option Value → Option Value
+either a b = on a (λ v. on b (λ w. on (truthOf v) (λ h. on (truthOf w) (λ k. some (vBool (h || k))))))
+
+-- document 01's `(or)` and `(or t)`, of which SMT-LIB says nothing: false, and that test
+abbrev pub anyOf : List Meant → Option Value
+anyOf [] = some (vBool false)
+anyOf (m ∷ []) = m none
+anyOf (m ∷ n ∷ ms) = either (m none) (anyOf (n ∷ ms))
+
+-- an application by its parts' meanings, its head's among them; branches are expected to be what the whole is
+abbrev pub iteOf : List Meant → Meant
+iteOf [] e = none
+iteOf (h ∷ []) e = none
+iteOf (h ∷ c ∷ []) e = none
+iteOf (h ∷ c ∷ a ∷ []) e = none
+iteOf (h ∷ c ∷ a ∷ b ∷ []) e = chosen (c none) (a e) (b e)
+iteOf (h ∷ c ∷ a ∷ b ∷ d ∷ ms) e = none
+
+abbrev pub equalOf : List Meant → Option Value
+equalOf [] = none
+equalOf (h ∷ []) = none
+equalOf (h ∷ a ∷ []) = none
+equalOf (h ∷ a ∷ b ∷ []) = equals (a none) (b none)
+equalOf (h ∷ a ∷ b ∷ c ∷ ms) = none
+
+abbrev pub orOf : List Meant → Option Value
+orOf [] = none
+orOf (h ∷ ms) = anyOf ms
+
+abbrev pub operated : List ℕ → List Meant → Option ℕ → Option Value → Option Value
+operated word ms e else =
+    cond (is word "ite") (iteOf ms e)
+    (cond (is word "=") (equalOf ms)
+    (cond (is word "or") (orOf ms)
+    else))
+
+-- by its head; what is headed by none of the three is a literal
+abbrev pub headed : Trees → List Meant → Option ℕ → Option Value → Option Value
+headed nil ms e else = else
+headed (cons h us) ms e else = onSymbol h else (λ word. operated word ms e else)
+
+-- what a term means where x is the argument's name and v its value
+unfoldable mutual
+  pub meaning : Tree → Tables → List ℕ → Value → Meant
+  meaning (bitVec w n) T x v e = literal T x (bitVec w n) e
+  meaning (numeral n) T x v e = literal T x (numeral n) e
+  meaning (string s) T x v e = literal T x (string s) e
+  meaning (symbol s) T x v e = cond (sameName s x) (some v) (literal T x (symbol s) e)
+  meaning (app us) T x v e = headed us (meanings us T x v) e (literal T x (app us) e)
+
+  pub meanings : Trees → Tables → List ℕ → Value → List Meant
+  meanings nil T x v = []
+  meanings (cons u us) T x v = (λ e. meaning u T x v e) ∷ meanings us T x v

@@ -1,0 +1,1 @@
+// No code: demand 3, as a theorem over the definitions that the listing prints.

@@ -1,0 +1,63 @@
+-- Document 01, "The listing": the sample, its tables, its model and its listing.
+use mathlib.Core.Path.{_≡_, refl}
+use mathlib.Core.Bool.{true}
+use mathlib.Core.List.{List, [], _∷_, map}
+use Prim.Native.Nat.{ℕ, _-_, _^_}
+use Prim.Native.String.{String}
+use Rattle.ground.specs.Bytes.{bytes}
+use Rattle.ground.specs.Lists.{joined, find, at}
+use Rattle.arena.specs.Text.{sameText}
+use Rattle.arena.specs.Tree.{Tree, Trees, bitVec, numeral, symbol, app, nil, cons}
+use Rattle.decimals.specs.Decimal.{decimal, lastDigits, digitCountWithin, signedDecimal}
+use Rattle.order.specs.Order.{before, insert, arranged}
+use Rattle.tables.specs.Find.{sortRow, namedSort, variableRow, functionRow, memberRow}
+use Rattle.tables.specs.Sort.{bool, bitVec as bits, optionOf, Tables}
+use Rattle.shapes.specs.Shape.{shape}
+use Rattle.shapes.specs.SortShape.{sortShape}
+use Rattle.sorts.specs.Result.{Result, ok, _>>=_, unless}
+use Rattle.sorts.specs.Sort.{readSort}
+use Rattle.values.specs.Normal.{normal, normals, arrangedValues}
+use Rattle.values.specs.Text.{text, hex, hexText, hexDigit}
+use Rattle.literals.specs.Literal.{read}
+use Rattle.commands.specs.Command.{command, chain, tests, key}
+use Rattle.model.specs.Model.{Definition, readChain, readTests, readCommands, readModel, lastVariable, lastFunction}
+use Rattle.model.specs.Listing.{rendered, listing}
+
+abbrev list : List Tree → Trees
+list [] = nil
+list (t ∷ ts) = cons t (list ts)
+
+abbrev word : String → Tree
+word s = symbol (bytes s)
+
+abbrev of : List Tree → Tree
+of ts = app (list ts)
+
+-- `(_ BitVec 8)`
+abbrev eight : Tree
+eight = of (word "_" ∷ word "BitVec" ∷ numeral 8 ∷ [])
+
+abbrev tables : Tables
+tables = record {
+  sorts = bool ∷ bits 8 ∷ optionOf 1 ∷ [];
+  variables = record { name = bytes "x"; sort = 2 } ∷ [];
+  functions = record { name = bytes "f"; argument = 1; result = 0 } ∷ [];
+  members = [];
+}
+
+abbrev model : Tree
+model =
+    of
+    (of (word "define-fun" ∷ word "x" ∷ of [] ∷ of (word "Option" ∷ eight ∷ []) ∷ of (word "some" ∷ bitVec 8 (2 ^ 128 - 1) ∷ []) ∷ [])
+    ∷ of
+    (word "define-fun" ∷ word "f" ∷ of (of (word "a" ∷ eight ∷ []) ∷ []) ∷ word "Bool"
+    ∷ of (word "or" ∷ of (word "=" ∷ word "a" ∷ bitVec 8 1 ∷ []) ∷ of (word "=" ∷ bitVec 8 0 ∷ word "a" ∷ []) ∷ []) ∷ [])
+    ∷ [])
+
+abbrev listed : Result (List Definition) → Result (List ℕ)
+listed m = m >>= λ ds. ok (listing tables ds)
+
+sample : listed (readModel tables model) ≡
+    ok (bytes "vars=1\nfuns=1\nvar=x\nsort=2\nvalue=some(bv8:ff)\nfun=f\narg=1\nout=0\nwhen=bv8:00\nthen=true\nwhen=bv8:01\nthen=true\nelse=false\n")
+unfolding joined find at sameText decimal lastDigits digitCountWithin before insert arranged sortRow namedSort variableRow functionRow memberRow shape sortShape _>>=_ unless readSort normal arrangedValues text hex hexDigit read command chain tests key readChain readTests readCommands readModel lastVariable lastFunction rendered listing
+sample = refl

@@ -1,0 +1,123 @@
+-- Hex digits: of a byte, of a pair of words, and put into a buffer, the last one first.
+-- Assumes nothing.
+use mathlib.Core.Path.{_≡_, refl, sym, ap, _∙_, subst}
+use mathlib.Core.List.{List, [], _∷_, _++_, append-nil}
+use Prim.Native.Nat.{ℕ, suc, _+_, _*_, _-_, _/_, _%_, _^_, _<_, _≤_}
+use native.Mathlib.Nat.{mod-eq-of-lt, lt-of-lt-of-le, one-mul, add-comm}
+use native.Mathlib.Numerals.{add-one}
+use native.Mathlib.Omega.{arith}
+use lib.ListN.{length, getD, take, drop, set, length-set, take-append-drop}
+use lib.Pow.{pow-pos, pow-mono, shl-exact, mod-pow-add, mod-mod-pow}
+use lib.Seq.{take-suc, set-at, length-take-le, append-snoc}
+use borrow.Author.Tests.{lt-ltb, le-ltb}
+use Rattle.words.proofs.Numbers.{value-fits}
+use Rattle.values.specs.Text.{hexDigit, hex}
+
+pub digit-small : (d : ℕ) → d < 10 → 48 + d ≡ hexDigit d
+unfolding hexDigit
+digit-small d h = rw (lt-ltb d 10 h)
+
+pub digit-large : (d : ℕ) → 10 ≤ d → 87 + d ≡ hexDigit d
+unfolding hexDigit
+digit-large d h = rw (le-ltb d 10 h)
+
+-- a number of two words without its last digit, and that digit
+pub shorter : (low high : ℕ) → low / 16 + high % 16 * 1152921504606846976 + high / 16 * 2 ^ 64 ≡ (low + high * 2 ^ 64) / 16
+shorter low high = omega arith
+
+pub shorter-fits : (low high : ℕ) → low < 2 ^ 64 → low / 16 + high % 16 * 1152921504606846976 < 2 ^ 64
+shorter-fits low high h = omega arith
+
+pub last-digit-is : (low high r : ℕ) → r ≡ hexDigit (low % 16) → r ≡ hexDigit ((low + high * 2 ^ 64) % 16)
+last-digit-is low high r e = let z : low % 16 ≡ (low + high * 2 ^ 64) % 16 = omega arith in e ∙ ap hexDigit z
+
+-- the code's power of two
+unit : (k : ℕ) → k < 64 → 1 * 2 ^ k % 2 ^ 64 ≡ 2 ^ k
+unit k h = shl-exact {a = 1} 1 k 64 (omega arith) (omega arith) ∙ one-mul (2 ^ k)
+
+pub unit-some : (k : ℕ) → k < 64 → 0 < 1 * 2 ^ k % 2 ^ 64
+unit-some k h = subst (λ (n : ℕ). 0 < n) (sym (unit k h)) (pow-pos k)
+
+-- the lowest bits of a number of two words
+module _ (low high w : ℕ) (l : low < 2 ^ 64) where
+  pub bits-all : high < 2 ^ 64 → 128 ≤ w → low + high * 2 ^ 64 ≡ (low + high * 2 ^ 64) % 2 ^ w
+  bits-all h k = sym (mod-eq-of-lt (lt-of-lt-of-le (value-fits low high l h) (pow-mono k)))
+
+  pub bits-high : 64 ≤ w → w < 128 → low + high % (1 * 2 ^ (w - 64) % 2 ^ 64) * 2 ^ 64 ≡ (low + high * 2 ^ 64) % 2 ^ w
+  bits-high k j =
+      let q : (low + high * 2 ^ 64) / 2 ^ 64 ≡ high = omega arith in
+      let m : (low + high * 2 ^ 64) % 2 ^ 64 ≡ low = omega arith in
+      let e : w - 64 + 64 ≡ w = omega arith in
+      ap (λ (p : ℕ). low + high % p * 2 ^ 64) (unit (w - 64) (omega arith))
+      ∙ add-comm low (high % 2 ^ (w - 64) * 2 ^ 64)
+      ∙ sym (ap (λ (p : ℕ). (low + high * 2 ^ 64) % 2 ^ p) (sym e) ∙ mod-pow-add (low + high * 2 ^ 64) (w - 64) 64
+      ∙ ap (λ (x : ℕ). x % 2 ^ (w - 64) * 2 ^ 64 + (low + high * 2 ^ 64) % 2 ^ 64) q ∙ ap (λ (x : ℕ). high % 2 ^ (w - 64) * 2 ^ 64 + x) m)
+
+  pub bits-low : w < 64 → low % (1 * 2 ^ w % 2 ^ 64) + 0 * 2 ^ 64 ≡ (low + high * 2 ^ 64) % 2 ^ w
+  bits-low k =
+      let m : (low + high * 2 ^ 64) % 2 ^ 64 ≡ low = omega arith in
+      let e : 64 - w + w ≡ 64 = omega arith in
+      let z : low % 2 ^ w + 0 * 2 ^ 64 ≡ low % 2 ^ w = omega arith in
+      ap (λ (p : ℕ). low % p + 0 * 2 ^ 64) (unit w k) ∙ z
+      ∙ sym (sym (mod-mod-pow (low + high * 2 ^ 64) (64 - w) w) ∙ ap (λ (p : ℕ). (low + high * 2 ^ 64) % 2 ^ p % 2 ^ w) e ∙ ap (λ (x : ℕ). x % 2 ^ w) m)
+
+hex-more : (k n : ℕ) → hex (k + 1) n ≡ hex k (n / 16) ++ (hexDigit (n % 16) ∷ [])
+unfolding hex
+hex-more k n = rw (add-one k)
+
+-- ds are the digits that stand already, from at on
+pub record Putting (number start end : ℕ) (entry out : List ℕ) (rest at : ℕ) : Type 0 where
+  pub ds : List ℕ
+  pub low : start ≤ at
+  pub high : at ≤ end
+  pub long : length out ≡ length entry
+  pub holds : out ≡ take at entry ++ (ds ++ drop end entry)
+  pub digits : hex (at - start) rest ++ ds ≡ hex (end - start) number
+
+pub putting-start : (number start end : ℕ) (entry : List ℕ) → start ≤ end → Putting number start end entry entry number end
+putting-start number start end entry h = record {
+  ds = [];
+  low = h;
+  high = omega arith;
+  long = refl;
+  holds = sym (take-append-drop end entry);
+  digits = append-nil (hex (end - start) number);
+}
+
+module _ (number start end : ℕ) (entry out : List ℕ) (rest at : ℕ) (so : Putting number start end entry out rest at) (fits : end ≤ length entry) (more : start < at) where
+  pub put-within : at - 1 < length out
+  put-within = omega (arith, so .long, so .high)
+
+  front : take at entry ≡ take (at - 1) entry ++ (getD entry (at - 1) 0 ∷ [])
+  front =
+      let e : at ≡ suc (at - 1) = omega arith in
+      let l : at - 1 < length entry = omega (arith, so .high) in
+      ap (λ (k : ℕ). take k entry) e ∙ take-suc entry (at - 1) 0 l
+
+  pub putting-step : (d next : ℕ) → d ≡ hexDigit (rest % 16) → next ≡ rest / 16 → Putting number start end entry (set out (at - 1) d) next (at - 1)
+  putting-step d next g n = record {
+    ds = d ∷ so .ds;
+    low = omega arith;
+    high = omega (arith, so .high);
+    long = length-set out (at - 1) d ∙ so .long;
+    holds =
+        ap (λ (l : List ℕ). set l (at - 1) d)
+        (so .holds ∙ ap (λ (l : List ℕ). l ++ (so .ds ++ drop end entry)) front ∙ append-snoc (take (at - 1) entry) (getD entry (at - 1) 0) (so .ds ++ drop end entry))
+        ∙ set-at (take (at - 1) entry) (getD entry (at - 1) 0) (so .ds ++ drop end entry) d (at - 1) (length-take-le (at - 1) entry (omega (arith, so .high)));
+    digits =
+        let e : at - start ≡ at - 1 - start + 1 = omega arith in
+        sym (append-snoc (hex (at - 1 - start) next) d (so .ds))
+        ∙ ap (λ (m : ℕ). hex (at - 1 - start) m ++ (d ∷ []) ++ so .ds) n
+        ∙ ap (λ (x : ℕ). hex (at - 1 - start) (rest / 16) ++ (x ∷ []) ++ so .ds) g
+        ∙ ap (λ (l : List ℕ). l ++ so .ds) (sym (ap (λ (k : ℕ). hex k rest) e ∙ hex-more (at - 1 - start) rest))
+        ∙ so .digits;
+  }
+
+pub putting-end : (number start end : ℕ) (entry out : List ℕ) (rest at : ℕ) → Putting number start end entry out rest at → at ≤ start
+    → out ≡ take start entry ++ (hex (end - start) number ++ drop end entry)
+unfolding hex
+putting-end number start end entry out rest at so h =
+    let e : at ≡ start = omega (arith, so .low) in
+    let z : at - start ≡ 0 = omega (arith, so .low) in
+    let d : so .ds ≡ hex (end - start) number = sym (ap (λ (k : ℕ). hex k rest ++ so .ds) z) ∙ so .digits in
+    so .holds ∙ ap (λ (k : ℕ). take k entry ++ (so .ds ++ drop end entry)) e ∙ ap (λ (l : List ℕ). take start entry ++ (l ++ drop end entry)) d

@@ -1,0 +1,11 @@
+pub mod Digits
+pub mod Hexes
+pub mod Lays
+pub mod Closes
+pub mod Leaves
+pub mod Mades
+pub mod Arms
+pub mod Fields
+pub mod Sets
+pub mod Apps
+pub mod Values

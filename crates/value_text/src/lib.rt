@@ -1,0 +1,8 @@
+// A value written as its text to the front of what is lent, the rest of a caller's buffer.
+mod hex;
+mod leaf;
+mod made;
+mod set;
+mod value;
+
+pub use value::write_value;
