@@ -1,9 +1,15 @@
 # What people type. Each target says what it needs.
-.PHONY: test library example bindings oracle vectors confirm compare bench
+.PHONY: test list library example bindings oracle vectors confirm compare bench
 
 # Proves every crate, tries every must-fail edit, runs every program: the gate. Needs the Rattle toolchain.
 test:
 	bash .ci/run
+
+# The listing of a solver's reply REPLY over the tables TABLES. Proves the program first, where it is not proved yet. Needs the toolchain.
+list:
+	@mkdir -p target/list && cp "$(TABLES)" target/list/tables.txt
+	@rt check modellist > target/list/check.log 2>&1 || { cat target/list/check.log; exit 1; }
+	@reply="$(abspath $(REPLY))" && cd target/list && ../bin/modellist < "$$reply"
 
 # What C and Rust link, target/staticlib/libstazzumpi.a, for this machine. Needs the toolchain, which compiles for x86-64 alone;
 # elsewhere tools/native.sh has the same module compiled for the machine. NATIVE=1 goes that way on x86-64 too.
@@ -14,13 +20,18 @@ else
 	sh tools/native.sh
 endif
 
-# Builds the example in C and shows it on two real replies. Needs the toolchain and a C compiler.
+# Builds the examples in C and shows them: the trees of two real replies, the listings of document 01's sample and of a real reply.
+# Needs the toolchain and a C compiler.
 CFLAGS ?= -O2
-example: library
-	mkdir -p target/example
-	$(CC) -std=c99 $(CFLAGS) -Wall -Wextra -Werror -pedantic -Iinclude examples/c/readtree.c target/staticlib/libstazzumpi.a -o target/example/readtree
+example: target/example/readtree target/example/listmodel
 	target/example/readtree vectors/replies/bools/cvc5-1.0.3.model.txt
 	target/example/readtree vectors/replies/option-single/z3-4.8.12.model.txt
+	target/example/listmodel crates/modellist/data/tables.txt crates/modellist/stdin
+	target/example/listmodel vectors/replies/gift-policy-0/tables.txt vectors/replies/gift-policy-0/cvc5-1.0.3.model.txt
+
+target/example/%: examples/c/%.c library
+	@mkdir -p $(@D)
+	$(CC) -std=c99 $(CFLAGS) -Wall -Wextra -Werror -pedantic -Iinclude $< target/staticlib/libstazzumpi.a -o $@
 
 # Tests the Rust binding over the library. Needs the toolchain and cargo.
 bindings: library

@@ -156,6 +156,20 @@ uint64_t stazzumpi_find_sort_name(const uint64_t *sorts, size_t sorts_length, co
 uint64_t stazzumpi_find_sort(const uint64_t *sorts, size_t sorts_length, uint64_t kind, uint64_t number, uint64_t *told,
                              size_t told_length);
 
+/* The listing of a model at the front of `out`: the variables and the functions of the tables that the tree defines, and what it
+ * says of them, in the form of document 01. The tables are those of stazzumpi_check_tables, the tree stands at the front of `nodes`
+ * and `text` as stazzumpi_parse_sexpr leaves it; both are checked first, whoever wrote them. The need for `out` counts members of a
+ * set and arms of a function as often as they are written, the listing has each once; the bytes between the listing's end and the
+ * need are zeroed. The call takes some 130,000 bytes of the stack and up to 1,000 more for each level that a value is nested, at
+ * most 1,200,000.
+ * Tells 1 word: the length of the listing. Refusals: 26 (told); 25; 27; 13 for a tree that is no list; that of the first command
+ * that has one (4, 7, 8, 13 to 24, 28); 26 for `out`. */
+uint64_t stazzumpi_list_model(const uint64_t *sorts, size_t sorts_length, const uint64_t *fields, size_t fields_length,
+                              const uint64_t *variables, size_t variables_length, const uint64_t *functions,
+                              size_t functions_length, const uint64_t *members, size_t members_length, const uint8_t *names,
+                              size_t names_length, const uint64_t *nodes, size_t nodes_length, const uint8_t *text,
+                              size_t text_length, uint8_t *out, size_t out_length, uint64_t *told, size_t told_length);
+
 /* The lines of a script, each with its line feed at the front of `out`.
  * Each tells 1 word: the length of the line. Refusals: 26 (told); 9 for an input of more than 16,777,216 elements; 25 for ends that
  * fall or pass their string, or that are odd in count where they are pairs; 26 for `out`.

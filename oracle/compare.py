@@ -27,22 +27,12 @@ ONE_BOOL = b"sort=bool\nvar=b 0\n".hex()
 READERS = {"strings": reading.strings, "trees": reading.trees, "lines": reading.lines, "listings": walk.listings}
 
 
-def explanation(case, found):
-    """Why the crate's listing parts from document 01's: the ways without which its answer is not reached, or None."""
-    followed = walk.listings(case, walk.CRATE)
-    if followed == found:
-        needed = [way for way in sorted(walk.CRATE) if walk.listings(case, walk.CRATE - {way}) != found]
-        return " ".join(needed) or "several ways to the same answer"
-    # What the crate works out where document 01 says 22 is not followed by walk.py.
-    return "S1" if followed == "refused=22" else None
-
-
 def compared(mode, cases, what):
     """Prints the tally of one batch; gives back the number of unexplained differences."""
     tally, unexplained = Counter(), []
     for case, found in zip(cases, answers(mode, cases)):
         wanted = READERS[mode](case)
-        why = "alike" if wanted == found else explanation(case, found) if mode == "listings" else None
+        why = "alike" if wanted == found else walk.explanation(case, found) if mode == "listings" else None
         tally[why] += 1
         if why is None:
             unexplained.append((case, wanted, found))
@@ -63,7 +53,7 @@ def stale(name, mode):
 
 def lists():
     faults = 0
-    for name, mode in (("strings", "strings"), ("trees", "trees"), ("lines", "lines"), ("listings/alike", "listings"), ("listings/differ", "listings")):
+    for name, mode in (("strings", "strings"), ("trees", "trees"), ("lines", "lines"), ("listings", "listings")):
         faults += stale(name, mode)
         faults += compared(mode, read(name)[0], name)
     return faults

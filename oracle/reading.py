@@ -12,10 +12,11 @@ WORD = 2 ** 64
 
 
 class Refused(Exception):
-    """A refusal by document 01's number."""
+    """A refusal by document 01's number, with its detail."""
 
-    def __init__(self, number):
+    def __init__(self, number, detail=0):
         super().__init__(f"refused={number}")
+        self.number, self.detail = number, detail
 
 
 def code_point(value):

@@ -17,9 +17,15 @@ CRATE = frozenset(["D1", "D2", "D3", "D4", "D5", "D6", "D7", "D8", "S2", "S3"])
 
 
 class Value(NamedTuple):
+    """A value's sort and text; `kept` is the text with repeated members kept, `members` a set's members as they are written."""
+
     sort: tuple
     text: str
-    members: Optional[frozenset] = None
+    kept: str
+    members: Optional[tuple] = None
+
+    def told(self, kept):
+        return self.kept if kept else self.text
 
 
 class Tables:
@@ -62,12 +68,11 @@ class Tables:
     def add_enum(self, rest, _ways):
         name, row, text = rest.split(" ", 2)
         sort = self.sorts[int(row)]
-        self.enums[name.encode()] = Value(sort, f"e{sort[1]}:{text.encode().hex()}")
+        self.enums[name.encode()] = plain(sort, f"e{sort[1]}:{text.encode().hex()}")
 
 
-def tree(raw):
+def tree(arena):
     """The reader's tree: an application is a list, an atom a tuple."""
-    arena = Arena(raw)
     root = []
     open_lists = [(root, len(arena.nodes))]
     for at, (kind, first, second, third) in enumerate(arena.nodes):
@@ -93,8 +98,15 @@ def is_app(node, name, count=None):
     return isinstance(node, list) and node[:1] == [(4, name)] and (count is None or len(node) == count)
 
 
-def braces(texts):
-    return "{" + ",".join(sorted(texts, key=str.encode)) + "}"
+def plain(sort, text):
+    """A value without members inside it."""
+    return Value(sort, text, text)
+
+
+def braces(sort, members):
+    """A set of members as they are written, each its text and the one that keeps repeats."""
+    texts = sorted({text for text, _ in members}, key=str.encode)
+    return Value(sort, "{" + ",".join(texts) + "}", "{" + ",".join(kept for _, kept in members) + "}", members)
 
 
 class Walk:
@@ -151,20 +163,20 @@ class Walk:
         if node[0] == 1:
             return self.vector(node[2], node[1] - 2 ** 128 if node[1] >= 2 ** 127 and node[2] > 128 else node[1])
         if node[0] == 3:
-            return Value(self.met(STRING), "s:" + node[1].hex())
+            return plain(self.met(STRING), "s:" + node[1].hex())
         if node[0] == 4:
             return self.atom(node[1], expected)
         raise Refused(15)
 
     def vector(self, width, number):
         digits = (width + 3) // 4
-        return Value(self.met(("bitvec", width)), f"bv{width}:{number % 2 ** width:0{digits}x}")
+        return plain(self.met(("bitvec", width)), f"bv{width}:{number % 2 ** width:0{digits}x}")
 
     def atom(self, name, expected):
         if name in (b"true", b"false"):
-            return Value(self.met(BOOL), name.decode())
+            return plain(self.met(BOOL), name.decode())
         if name == b"none" and self.has("D1") and expected and expected[0] == "option":
-            return Value(expected, "none")
+            return plain(expected, "none")
         if name in self.tables.named and self.has("D2"):
             return self.named(name, [], 0)
         if name in self.tables.enums:
@@ -186,13 +198,13 @@ class Walk:
             return self.empty("set", node[2], level)
         if head == b"set.singleton" and len(node) == 2:
             member = self.value(node[1], self.inside("set", expected), level + 1)
-            return Value(self.met(("set", member.sort)), braces([member.text]), frozenset([member.text]))
+            return braces(self.met(("set", member.sort)), ((member.text, member.kept),))
         if head == b"set.union" and len(node) == 3:
             return self.union(node, expected, level)
         if head in SIGNED and len(node) == 2 and node[1][:1] == (1,) and node[1][2] == 64:
             number = node[1][1] % 2 ** 64
             number -= 2 ** 64 if number >= 2 ** 63 else 0
-            return Value(self.met(PLAIN[head]), f"{SIGNED[head]}:{number}")
+            return plain(self.met(PLAIN[head]), f"{SIGNED[head]}:{number}")
         if head == b"_" and len(node) == 3 and is_symbol(node[1]) and node[1][1][:2] == b"bv" and node[2][:1] == (2,):
             return self.indexed(node[1][1][2:], node[2][1])
         if head is not None:
@@ -212,11 +224,11 @@ class Walk:
         sort = self.sort(node, level + 1)
         if sort[0] != kind:
             raise Refused(19 if kind == "option" else 20)
-        return Value(sort, "none") if kind == "option" else Value(sort, "{}", frozenset())
+        return plain(sort, "none") if kind == "option" else braces(sort, ())
 
     def some(self, node, inner, level):
         value = self.value(node, inner, level + 1)
-        return Value(self.met(("option", value.sort)), f"some({value.text})")
+        return Value(self.met(("option", value.sort)), f"some({value.text})", f"some({value.kept})")
 
     def typed_some(self, node, level):
         sort = self.sort(node[0][2], level + 1)
@@ -231,8 +243,7 @@ class Walk:
             raise Refused(16)
         if one.members is None:
             raise Refused(28)
-        members = one.members | other.members
-        return Value(one.sort, braces(members), members)
+        return braces(one.sort, one.members + other.members)
 
     def indexed(self, digits, width):
         """`(_ bvN W)`; one leading `+` passes."""
@@ -247,19 +258,19 @@ class Walk:
     def named(self, name, parts, level):
         sort = self.tables.named.get(name, ("",))
         if sort[0] == "entity" and len(parts) == 1 and parts[0][:1] == (3,):
-            return Value(sort, f"e{sort[1]}:{parts[0][1].hex()}")
+            return plain(sort, f"e{sort[1]}:{parts[0][1].hex()}")
         if sort[0] != "record":
             raise Refused(15)
         fields = self.tables.fields[sort]
         if len(parts) != len(fields):
             raise Refused(18)
-        texts = []
+        values = []
         for part, field in zip(parts, fields):
             value = self.value(part, field, level + 1)
             if value.sort != field:
                 raise Refused(17)
-            texts.append(value.text)
-        return Value(sort, f"r{sort[1]}({','.join(texts)})")
+            values.append(value)
+        return Value(sort, *(f"r{sort[1]}({','.join(value.told(kept) for value in values)})" for kept in (False, True)))
 
     def test(self, node, arg):
         """The key of a test; it expects no sort."""
@@ -275,25 +286,25 @@ class Walk:
             raise Refused(16)
 
     def body(self, node, arg, sort, out):
-        """The arms and the default of a function's body."""
-        true, false = Value(BOOL, "true"), Value(BOOL, "false")
+        """The arms of a function's body as they are written, and the default."""
+        true, false = plain(BOOL, "true"), plain(BOOL, "false")
         if is_app(node, b"=") and self.has("D4"):
-            return {self.test(node, arg): true}, false
+            return [(self.test(node, arg), true)], false
         if is_app(node, b"or"):
             if out != BOOL and not self.has("D7"):
                 raise Refused(16)
-            arms = {}
+            arms = []
             for part in node[1:]:
                 key = self.test(part, arg)
                 self.fits(key, sort)
-                arms[key] = true
+                arms.append((key, true))
             return arms, false
-        arms = {}
+        arms = []
         while is_app(node, b"ite", 4):
             key, value = self.test(node[1], arg), self.value(node[2], out)
             self.fits(key, sort)
             self.fits(value, out)
-            arms[key] = value
+            arms.append((key, value))
             node = node[3]
         default = self.value(node, out)
         self.fits(default, out)
@@ -325,31 +336,50 @@ class Walk:
         else:
             raise Refused(13)
 
-    def listing(self):
+    @staticmethod
+    def settled(arms):
+        """The arms in the listing's order; a later one with an equal key replaces an earlier one."""
+        last = {(key.sort, key.text): (key, value) for key, value in arms}
+        return sorted(last.values(), key=lambda arm: (arm[0].text.encode(), arm[1].text))
+
+    def listing(self, kept=False):
+        """The listing, or the text whose length is the need: with repeated members and arms kept."""
         lines = [f"vars={len(self.vars)}", f"funs={len(self.funs)}"]
         for name, row in self.tables.vars.items():
             if name in self.vars:
-                lines += [f"var={name.decode()}", f"sort={row}", f"value={self.vars[name].text}"]
+                lines += [f"var={name.decode()}", f"sort={row}", f"value={self.vars[name].told(kept)}"]
         for name, (arg, out) in self.tables.funs.items():
             if name in self.funs:
                 arms, default = self.funs[name]
                 lines += [f"fun={name.decode()}", f"arg={arg}", f"out={out}"]
-                for key, value in sorted((key.text.encode(), value.text) for key, value in arms.items()):
-                    lines += [f"when={key.decode()}", f"then={value}"]
-                lines.append(f"else={default.text}")
+                for key, value in arms if kept else self.settled(arms):
+                    lines += [f"when={key.told(kept)}", f"then={value.told(kept)}"]
+                lines.append(f"else={default.told(kept)}")
         return "\n".join(lines) + "\n"
+
+
+def walked(tables, arena, ways=frozenset()):
+    """The walk over a model that has been read."""
+    root = tree(arena)
+    walk = Walk(tables, ways)
+    if not isinstance(root, list):
+        raise Refused(13)
+    for node in root:
+        walk.command(node)
+    return walk
 
 
 def listings(line, ways=frozenset()):
     """The answer to a case of the oracle's `listings`, by document 01 and the crate's ways taken up."""
     tables, model = (bytes.fromhex(part) for part in line.split(" "))
+    return answered(lambda: "listing=" + walked(tables, Arena(model), ways).listing().encode().hex())
 
-    def reading():
-        root = tree(model)
-        walk = Walk(tables, ways)
-        if not isinstance(root, list):
-            raise Refused(13)
-        for node in root:
-            walk.command(node)
-        return "listing=" + walk.listing().encode().hex()
-    return answered(reading)
+
+def explanation(case, found):
+    """Why the crate's listing parts from document 01's: the ways without which its answer is not reached, or None."""
+    followed = listings(case, CRATE)
+    if followed == found:
+        needed = [way for way in sorted(CRATE) if listings(case, CRATE - {way}) != found]
+        return " ".join(needed) or "several ways to the same answer"
+    # What the crate works out where document 01 says 22 is not followed here.
+    return "S1" if followed == "refused=22" else None

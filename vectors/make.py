@@ -12,11 +12,15 @@ sys.dont_write_bytecode = True
 HERE = Path(__file__).resolve().parent
 sys.path.append(str(HERE.parent / "oracle"))
 import walk  # noqa: E402  (the path above has to come first)
-from asking import answers  # noqa: E402
-from cases import ends, leaves, lines, listings, rooms, strings, tables, trees  # noqa: E402
-from lists import files  # noqa: E402
+from asking import answers, with_room  # noqa: E402
+from cases import ends, known, leaves, levels, limits, lines, listed, listings, readings, repeats, rooms, strings, tables, trees  # noqa: E402
+from lists import DIFFER, OURS, asked, files, told  # noqa: E402
 
 SEED = 20261115
+# The longest real reply that the listings hold; of those printed with other options, which have a `+` in their names, the longest.
+LONGEST_REPLY, LONGEST_OTHER = 70_000, 4_000
+# Those that are too large for the rooms of `modellist`.
+LARGER = ("fun-rec-200",)
 
 
 def gathered(ranges):
@@ -71,18 +75,57 @@ def parted(cases):
     return alike, differ
 
 
-def put_listings(rng):
-    """Two lists: cases where the crate's answer is document 01's, and cases where it is not, with document 01's beside it."""
+def in_rooms(letter, pairs):
+    """Cases of tables in short and a model each."""
+    return [listed.case(letter, listings.tables(short).encode(), model.encode()) for short, model in pairs]
+
+
+def listing_ranges(rng):
     edges = listings.edge_cases()
     if parted(edges)[1]:
         sys.exit("an edge of the listings is not alike")
-    alike, differ = parted(listings.drawn(rng))
-    found = put("listings/alike", "listings", [("document 01's sample and the edges of its rules", edges),
-                                               ("random tables and models, a few for each answer, by the seed", listings.sampled(alike))])
-    kept = listings.sampled(differ)
-    found += put("listings/differ", "listings", [("random tables and models, a few for each pair of answers, by the seed", kept)])
-    written(HERE / "listings" / "differ.01", map(walk.listings, kept))
-    return found
+    alike, differ = ([f"M {case}" for case in listings.sampled(some)] for some in parted(listings.drawn(rng)))
+    replies = [listed.case("L" if path.parent.name in LARGER else "M", (path.parent / "tables.txt").read_bytes(), path.read_bytes())
+               for path in real("model") if path.stat().st_size <= (LONGEST_OTHER if "+" in path.name else LONGEST_REPLY)]
+    return [
+        ("document 01's sample and the edges of its rules, where one might doubt that the crate's answer is document 01's",
+         [f"M {case}" for case in edges]),
+        ("random tables and models on which the crate's answer is document 01's, a few for each answer, by the seed", alike),
+        ("random tables and models on which it is not, a few for each pair of answers, by the seed", differ),
+        ("the differences from the crate, D1 to D8, S1 and S2 of docs/DIFFERENCES.md, several models each",
+         in_rooms("M", known.pairs(known.DIFFERING))),
+        ("models for each place where document 01's words leave a doubt", in_rooms("M", known.pairs(readings.DOUBTS))),
+        ("repeated members, unions in other order and grouping, arms with equal keys, definitions given twice and skipped ones",
+         in_rooms("M", known.pairs(repeats.REPEATS))),
+        ("level 1,024 through every form, and levels 1,022 and 1,023 through some of them, which are read to another number",
+         in_rooms("L", levels.refused())),
+        ("values and sorts nested to level 1,023 through every form that are listed, and more arms than levels", in_rooms("L", levels.listed())),
+        ("the real replies of a model, without the longest and without long ones printed with other options", replies),
+        ("refused tables, replies that the reader refuses, empty inputs", [listed.case(*parts) for parts in limits.before_the_walk()]),
+        ("document 01's rooms, just full and short by one", [listed.case(*parts) for parts in limits.rooms()]),
+        ("the longest reply, with as much text as there is room for, and one that is longer by a byte",
+         [listed.case(*parts) for parts in limits.lengths()]),
+    ]
+
+
+def put_listings(rng):
+    """The list of listings: document 01's answers, and beside them the crate's where it differs; each difference has to be a listed one."""
+    cases, spans = gathered(listing_ranges(rng))
+    found = list(map(listed.printed, cases))
+    put_in, put_out = files("listings")
+    put_in.parent.mkdir(exist_ok=True)
+    written(put_in, cases)
+    put_out.write_bytes(b"".join(found))
+    ours = [f"refused={number}" for number in OURS]
+    places = [place for place, printed in enumerate(found) if told(printed) not in ours]
+    differ = []
+    for place, got in zip(places, answers("listings", [asked(cases[place]) for place in places])):
+        if got != told(found[place]):
+            differ.append(f"{place + 1} {got}")
+            if walk.explanation(asked(cases[place]), got) is None:
+                sys.exit(f"listings: line {place + 1} differs from the crate and is none of the listed differences")
+    written(DIFFER, differ)
+    return table("listings", spans)
 
 
 def put_replies():
@@ -111,4 +154,4 @@ def main():
 
 
 if __name__ == "__main__":
-    main()
+    with_room(main)

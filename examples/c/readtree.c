@@ -1,8 +1,7 @@
 /* readtree FILE: the tree of one S-expression, a node a line, indented by its depth. */
 #include <inttypes.h>
-#include <stdio.h>
-#include <stdlib.h>
 
+#include "files.h"
 #include "stazzumpi.h"
 
 /* What is lent to the reader, and the three numbers that it tells. */
@@ -12,35 +11,6 @@ struct lent {
     size_t node_words, text_bytes, entries;
     uint64_t told[3];
 };
-
-static void *room(size_t count, size_t size) {
-    void *p = calloc(count + 1, size); /* never NULL, also for none */
-    if (!p) {
-        fputs("readtree: no memory\n", stderr);
-        exit(2);
-    }
-    return p;
-}
-
-static uint8_t *whole_file(const char *name, size_t *length) {
-    FILE *file = fopen(name, "rb");
-    size_t size = 4096, got;
-    uint8_t *bytes = room(size, 1);
-    *length = 0;
-    if (!file) {
-        perror(name);
-        exit(2);
-    }
-    while ((got = fread(bytes + *length, 1, size - *length, file)) > 0) {
-        *length += got;
-        if (*length == size) {
-            bytes = realloc(bytes, size *= 2);
-            if (!bytes) exit(2);
-        }
-    }
-    fclose(file);
-    return bytes;
-}
 
 static void lend(struct lent *lent, size_t nodes, size_t text, size_t depth) {
     lent->node_words = nodes * STAZZUMPI_NODE_WORDS;
@@ -101,15 +71,14 @@ int main(int count, char **arguments) {
     lend(&lent, length, 2 * length, length); /* no input needs more */
     r = stazzumpi_parse_sexpr(input, length, lent.nodes, lent.node_words, lent.text, lent.text_bytes, lent.stack, lent.entries,
                               lent.told, 3);
-    if (r != 0) {
+    if (r == 0) {
+        print_nodes(&lent);
+        printf("nodes=%" PRIu64 " text=%" PRIu64 " depth=%" PRIu64 "\n", lent.told[0], lent.told[1], lent.told[2]);
+    } else
         printf("refused=%d\ndetail=%" PRIu64 "\n", STAZZUMPI_NUMBER(r), STAZZUMPI_DETAIL(r));
-        return 1;
-    }
-    print_nodes(&lent);
-    printf("nodes=%" PRIu64 " text=%" PRIu64 " depth=%" PRIu64 "\n", lent.told[0], lent.told[1], lent.told[2]);
     free(input);
     free(lent.nodes);
     free(lent.text);
     free(lent.stack);
-    return 0;
+    return r == 0 ? 0 : 1;
 }

@@ -92,8 +92,10 @@ EDGES = [
      '((define-fun x () (Set String) (set.union (set.singleton "b") (set.union (set.singleton "a") (set.singleton "b")))))'),
 ]
 DRAWN = 20_000
-# How many random cases are kept for a pair of answers: document 01's and the crate's.
-KEPT = {("listing", "listing"): 160}
+# How many random cases are kept for a pair of answers, document 01's and the crate's: of those that are not too long, in digits, or else
+# the shortest.
+LONGEST, FEWEST = 400, 2
+KEPT = {("listing", "listing"): 110}
 KEPT_ALIKE, KEPT_APART = 25, 6
 
 
@@ -113,11 +115,13 @@ def drawn(rng):
 
 
 def sampled(cases):
-    """The first few cases of each pair of answers."""
-    left, kept = {}, []
+    """The first few cases of each pair of answers that are not too long; where there are hardly any such, the shortest."""
+    groups = {}
     for case, pair in cases:
-        left.setdefault(pair, KEPT.get(pair, KEPT_ALIKE if pair[0] == pair[1] else KEPT_APART))
-        if left[pair]:
-            left[pair] -= 1
-            kept.append(case)
-    return kept
+        groups.setdefault(pair, []).append(case)
+    kept = set()
+    for pair, some in groups.items():
+        short = [case for case in some if len(case) <= LONGEST]
+        few = short if len(short) >= FEWEST else sorted(some, key=len)[:FEWEST]
+        kept.update(few[:KEPT.get(pair, KEPT_ALIKE if pair[0] == pair[1] else KEPT_APART)])
+    return [case for case, _ in cases if case in kept]

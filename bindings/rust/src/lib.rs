@@ -1,8 +1,8 @@
 //! Stazzumpi: reading what an SMT solver answered, with proof.
 //!
 //! The library is written in Rattle, and each of its functions is proved to meet its contract for all inputs
-//! (docs/CONTRACTS.md). This crate calls it, over slices that are lent, and takes no memory of its own but the stack. A
-//! refusal leaves every lent slice as it was.
+//! (docs/CONTRACTS.md). This crate calls it, over slices that are lent, and takes no memory of its own but the stack, save
+//! for [`models::list`], which reads and lists in one go. A refusal leaves every lent slice as it was.
 //!
 //! `libstazzumpi.a` is linked in, which `make library` writes for 64-bit Linux on x86-64 or Arm. The build looks for it in the
 //! folder that the environment variable `STAZZUMPI_LIB_DIR` names, else where that command puts it in this project.
@@ -24,6 +24,8 @@
 //! # Ok::<(), Refusal>(())
 //! ```
 #![no_std]
+
+extern crate alloc;
 
 mod ffi;
 mod refusal;
@@ -68,6 +70,7 @@ macro_rules! call {
 }
 
 pub mod lines;
+pub mod models;
 pub mod tables;
 
 /// The text of what stands between the quotes of a string literal, at the front of `out`; answers its length.
@@ -121,6 +124,11 @@ mod tests {
         let mut table = [[9; 1]; 5];
         let [a, b, c, d, e] = table.each_mut().map(|word| word.as_mut_ptr());
         assert_eq!(unsafe { ffi::stazzumpi_read_tables(s, 1, a, 1, b, 1, c, 1, d, 1, e, 1, told, 4) }, 26 + 256 * 5);
+        let n = nodes.as_ptr();
+        assert_eq!(
+            unsafe { ffi::stazzumpi_list_model(n, 4, n, 4, n, 4, n, 4, n, 4, s, 1, n, 4, s, 1, o, 2, told, 0) },
+            26 + 256
+        );
         assert_eq!((out, nodes, stack, table), ([9; 2], [9; 4], [9; 1], [[9; 1]; 5]));
     }
 

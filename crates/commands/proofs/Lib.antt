@@ -2,3 +2,4 @@ pub mod Commands
 pub mod Links
 pub mod Tests
 pub mod Keys
+pub mod Shapes

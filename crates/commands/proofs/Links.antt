@@ -5,6 +5,7 @@ use mathlib.Core.Bool.{true, false, true≢false}
 use mathlib.Core.List.{List}
 use Prim.Native.Nat.{ℕ, _+_, _<_}
 use native.Mathlib.Omega.{arith}
+use lib.ListN.{length}
 use Rattle.ground.specs.Bytes.{bytes}
 use Rattle.arena.specs.Node.{afterAt}
 use Rattle.arena.specs.Text.{sameText, textIs}
@@ -13,6 +14,7 @@ use Rattle.shapes.specs.declared.look.Word.{Word}
 use Rattle.shapes.specs.declared.look.Parts.{Parts}
 use Rattle.shapes.specs.Shape.{onSymbol, onApp}
 use Rattle.arena.proofs.Layouts.{stands-longer, stands-after}
+use Rattle.arena.proofs.Views.{node-within}
 use Rattle.shapes.specs.Shows.{Standing, StandingAll, Reads, WordAt, PartsAt}
 use Rattle.shapes.proofs.Stood.{first-of, others-of, said-so, said-name}
 use Rattle.shapes.proofs.Seen.{not-word, by-word, not-list, by-list}
@@ -20,6 +22,14 @@ use Rattle.shapes.proofs.Arms.{not-symbol}
 use Rattle.commands.specs.declared.chain.LinkFound.{LinkFound}
 use Rattle.commands.specs.Command.{default, arm, chain}
 use Rattle.commands.specs.LinkShows.{ite, LinkShows, LinkAt}
+
+-- a tree stands within the words
+pub standing-within : (t : Tree) (ws ts : List ℕ) (at : ℕ) → Standing t ws ts at → at < length ws
+standing-within (bitVec w n) ws ts at s = let z = node-within ws at (s .there .here) refl in omega arith
+standing-within (numeral n) ws ts at s = let z = node-within ws at (s .there .here) refl in omega arith
+standing-within (string t) ws ts at s = let z = node-within ws at (s .there .here) refl in omega arith
+standing-within (symbol t) ws ts at s = let z = node-within ws at (s .there .here) refl in omega arith
+standing-within (app us) ws ts at s = let z = node-within ws at (s .there .here) refl in omega arith
 
 pub chain-arm : (b c d : Tree) → chain (ite b c d) ≡ arm b c (chain d)
 unfolding chain sameText

@@ -4,16 +4,14 @@ use mathlib.Core.Path.{_≡_, refl, sym, ap, _∙_, subst}
 use mathlib.Core.Bool.{Bool, true, false}
 use mathlib.Core.List.{List, [], _∷_, _++_, append-assoc, append-nil}
 use mathlib.Core.Option.{Option, none, some}
-use Prim.Native.Nat.{ℕ, min, _+_, _≤_, _<_, _/_}
+use Prim.Native.Nat.{ℕ, min, _+_, _≤_}
 use native.Mathlib.Omega.{arith}
 use lib.Dec.{eqb}
 use lib.ListN.{length, length-append}
 use Rattle.ground.specs.Bytes.{bytes}
 use Rattle.refusals.specs.declared.Refusal.{Refusal}
 use Rattle.refusals.specs.declared.Refusal.the-variants.{UnmatchedType, UnexpectedForm}
-use Rattle.arena.specs.Layout.{stride}
-use Rattle.arena.specs.Tree.{Tree, bitVec, numeral, string, symbol, app}
-use Rattle.arena.proofs.Views.{node-within}
+use Rattle.arena.specs.Tree.{Tree}
 use Rattle.tables.specs.Layout.{Lent, tablesOf}
 use Rattle.tables.specs.Sort.{Tables}
 use Rattle.shapes.specs.Shows.{Standing, Reads}
@@ -29,6 +27,7 @@ use Rattle.literals.specs.Plan.{Given, DecodesAt}
 use Rattle.commands.specs.declared.chain.LinkFound.{LinkFound}
 use Rattle.commands.specs.Command.{Chain, arm, default, chain, key}
 use Rattle.commands.specs.LinkShows.{LinkShows, LinkAt}
+use Rattle.commands.proofs.Links.{standing-within}
 use Rattle.model.specs.Model.{Arm, armOf, Table, tableOf, push, readChain}
 use Rattle.model.specs.Listing.{line, armLines}
 use Rattle.definitions.specs.declared.measure.Measured.{Measured}
@@ -95,13 +94,6 @@ pub record Was {A : Type 0} (n : Result A) (size : A → ℕ) (long : ℕ) : Typ
 pub was-need : {A : Type 0} (n : Result A) (size : A → ℕ) (long : ℕ) → Measured.Need long ≡ measured size n → Was n size long
 was-need (ok a) size long e = record { it = a; read = refl; size-is = cc }
 was-need (refused y) size long e = let q : _≡_ {A = ℕ} 0 1 = cc in absurd (omega arith)
-
-standing-within : (t : Tree) (ws ts : List ℕ) (at : ℕ) → Standing t ws ts at → at < length ws
-standing-within (bitVec w n) ws ts at s = let z = node-within ws at (s .there .here) refl in omega arith
-standing-within (numeral n) ws ts at s = let z = node-within ws at (s .there .here) refl in omega arith
-standing-within (string t) ws ts at s = let z = node-within ws at (s .there .here) refl in omega arith
-standing-within (symbol t) ws ts at s = let z = node-within ws at (s .there .here) refl in omega arith
-standing-within (app us) ws ts at s = let z = node-within ws at (s .there .here) refl in omega arith
 
 -- the last line is six bytes and the value's text
 length-else : (s : List ℕ) → length (line "else" s) ≡ length s + 6

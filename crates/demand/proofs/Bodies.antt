@@ -19,12 +19,12 @@ use Rattle.values.specs.Value.{Value, vBool}
 use Rattle.literals.specs.Literal.{Lit, read}
 use Rattle.meaning.proofs.Results.{ok-same, went, passed, was-found}
 use Rattle.commands.specs.Command.{Chain, default, arm, chain, tests, key}
+use Rattle.commands.proofs.Shapes.{TestView, t-left, t-right, key-view, tests-view, ite, chain-by}
 use Rattle.model.specs.Model.{Table, armOf, tableOf, push, readChain, readTests, bodyBy, readBody}
 use Rattle.demand.specs.Equal.{decided, equal}
 use Rattle.demand.specs.Mention.{unbarred}
 use Rattle.demand.specs.Meaning.{Meant, chosen, equals, either, anyOf, meaning, meanings}
 use Rattle.demand.proofs.Decisions.{turned}
-use Rattle.demand.proofs.Shapes.{TestView, t-left, t-right, key-view, tests-view, ite, chain-by}
 use Rattle.demand.proofs.Looks.{firstHit, Give}
 
 -- L: a literal that is read means its value

@@ -21,9 +21,9 @@ use Rattle.literals.specs.Literal.{Lit, read}
 use Rattle.meaning.specs.Octets.{Octets, OctetsAll}
 use Rattle.meaning.proofs.Results.{refuses, ok-same, went, passed, was-found}
 use Rattle.commands.specs.Command.{Command, command}
+use Rattle.commands.proofs.Shapes.{CommandView, c-variable, c-function, c-misshapen, command-view}
 use Rattle.model.specs.Model.{Table, Definition, isVariable, isFunction, readBody, variableValue, functionTable, onRow, readCommand, readCommands, orElse, variableIn, functionIn, lastVariable, lastFunction}
 use Rattle.demand.specs.Last.{Body, isRow, termIn, bodyIn, lastTermIn, lastBodyIn}
-use Rattle.demand.proofs.Shapes.{CommandView, c-variable, c-function, c-misshapen, command-view}
 
 -- a name that is in its table, or not
 data OnRow {A : Type 0} (rows : List A) (rule : ℕ → A → Result Definition) : Option ℕ → List Definition → Type 0 where

@@ -1,4 +1,3 @@
-pub mod Shapes
 pub mod Free
 pub mod Decisions
 pub mod Looks

@@ -21,13 +21,9 @@ use Rattle.meaning.specs.Octets.{Octets, OctetsAll}
 use Rattle.meaning.proofs.Results.{ok-same, went, passed, was-found}
 use Rattle.meaning.proofs.Fits.{read-fits}
 use Rattle.commands.specs.Command.{Chain, default, arm, chain, tests, key}
+use Rattle.commands.proofs.Shapes.{TestView, t-left, t-right, key-view, tests-view, ite, chain-by}
 use Rattle.model.specs.Model.{Arm, Table, isBool, readChain, readTests, bodyBy, readBody}
-use Rattle.demand.proofs.Shapes.{TestView, t-left, t-right, key-view, tests-view, ite, chain-by}
-
-pub record TableFits (T : Tables) (argument result : ℕ) (t : Table) : Type 0 where
-  pub keys : Every (λ (a : Arm). HasSort (a .«when») Loose T argument) (t .arms)
-  pub values : Every (λ (a : Arm). HasSort (a .«then») Loose T result) (t .arms)
-  pub default : HasSort (t .«else») Loose T result
+use Rattle.demand.specs.Fits.{TableFits}
 
 -- the row is bool's
 bool-row : (o : Option Sort) → isBool o ≡ true → o ≡ some bool

@@ -18,12 +18,14 @@ use Rattle.meaning.specs.Octets.{Octets}
 use Rattle.meaning.proofs.Results.{refuses}
 use Rattle.model.specs.Model.{Table, Definition, readModel, lastVariable, lastFunction}
 use Rattle.model.specs.Listing.{settledTable, settled, listing}
+use Rattle.model.proofs.Settled.{mapped, settled-function}
 use Rattle.demand.specs.Last.{Body, lastBodyIn, lastTerm}
 use Rattle.demand.specs.Demand.{Sorted, OfVariable}
 use Rattle.demand.specs.Alike.{Alike}
-use Rattle.demand.proofs.Tables.{TableFits, body-fits}
+use Rattle.demand.specs.Fits.{TableFits}
+use Rattle.demand.proofs.Tables.{body-fits}
 use Rattle.demand.proofs.Commands.{Matches, no-body, of-body, commands-match}
-use Rattle.demand.proofs.Settled.{mapped, settled-function, arranged-settled}
+use Rattle.demand.proofs.Settled.{arranged-settled}
 use Rattle.demand.proofs.Theorem.{third-demand}
 use Rattle.demand.proofs.Listings.{FunctionFits, Fit, rendered-tell}
 

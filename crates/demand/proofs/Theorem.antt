@@ -22,6 +22,7 @@ use Rattle.meaning.proofs.Sound.{sound-octets}
 use Rattle.commands.specs.Command.{tests}
 use Rattle.model.specs.Model.{Table, Definition, bodyBy, readBody, readCommands, readModel, lastVariable, lastFunction}
 use Rattle.model.specs.Listing.{settledTable, settled}
+use Rattle.model.proofs.Settled.{mapped, settled-variable, settled-function}
 use Rattle.demand.specs.Meaning.{valueOf, meaning}
 use Rattle.demand.specs.Lookup.{lookup}
 use Rattle.demand.specs.Last.{Body, lastTermIn, lastBodyIn}
@@ -30,9 +31,10 @@ use Rattle.demand.specs.Demand.{Sorted, OfVariable, OfFunction, Demand}
 use Rattle.demand.proofs.Looks.{lastHit, firstHit, lookup-arranged, last-first, last-first-one}
 use Rattle.demand.proofs.Literals.{literal-means}
 use Rattle.demand.proofs.Bodies.{body-first, tests-give}
-use Rattle.demand.proofs.Tables.{TableFits, read-at, body-fits}
+use Rattle.demand.specs.Fits.{TableFits}
+use Rattle.demand.proofs.Tables.{read-at, body-fits}
 use Rattle.demand.proofs.Commands.{Reads, no-term, of-term, commands-read, Matches, no-body, of-body, commands-match}
-use Rattle.demand.proofs.Settled.{mapped, settled-variable, settled-function, every-settled, one-value}
+use Rattle.demand.proofs.Settled.{every-settled, one-value}
 
 module _ (T : Tables) (rules : lawful T ≡ true) where
   module _ (f : Function) (b : Body) (t : Table) (v : Value) (accepted : readBody T (b .argument) (f .argument) (f .result) (b .term) ≡ ok t) where

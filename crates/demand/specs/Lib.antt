@@ -5,5 +5,6 @@ pub mod Examples
 pub mod Lookup
 pub mod Last
 pub mod Premise
+pub mod Fits
 pub mod Demand
 pub mod Alike

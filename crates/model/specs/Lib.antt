@@ -1,3 +1,4 @@
 pub mod Model
 pub mod Listing
+pub mod Skipped
 pub mod Sample

@@ -1,4 +1,4 @@
--- Document 01, "The listing": the sample, its tables, its model and its listing.
+-- Document 01, "The listing" and "The model walk": the sample, its tables, its model and its listing; what is replaced and what is skipped.
 use mathlib.Core.Path.{_≡_, refl}
 use mathlib.Core.Bool.{true}
 use mathlib.Core.List.{List, [], _∷_, map}
@@ -6,6 +6,7 @@ use Prim.Native.Nat.{ℕ, _-_, _^_}
 use Prim.Native.String.{String}
 use Rattle.ground.specs.Bytes.{bytes}
 use Rattle.ground.specs.Lists.{joined, find, at}
+use Rattle.refusals.specs.declared.Refusal.the-variants.{UnexpectedModel}
 use Rattle.arena.specs.Text.{sameText}
 use Rattle.arena.specs.Tree.{Tree, Trees, bitVec, numeral, symbol, app, nil, cons}
 use Rattle.decimals.specs.Decimal.{decimal, lastDigits, digitCountWithin, signedDecimal}
@@ -14,7 +15,7 @@ use Rattle.tables.specs.Find.{sortRow, namedSort, variableRow, functionRow, mem
 use Rattle.tables.specs.Sort.{bool, bitVec as bits, optionOf, Tables}
 use Rattle.shapes.specs.Shape.{shape}
 use Rattle.shapes.specs.SortShape.{sortShape}
-use Rattle.sorts.specs.Result.{Result, ok, _>>=_, unless}
+use Rattle.sorts.specs.Result.{Result, ok, refused, _>>=_, unless}
 use Rattle.sorts.specs.Sort.{readSort}
 use Rattle.values.specs.Normal.{normal, normals, arrangedValues}
 use Rattle.values.specs.Text.{text, hex, hexText, hexDigit}
@@ -57,7 +58,28 @@ model =
 abbrev listed : Result (List Definition) → Result (List ℕ)
 listed m = m >>= λ ds. ok (listing tables ds)
 
+-- `(define-fun x () (Option (_ BitVec 8)) (some ..))`
+abbrev define : ℕ → Tree
+define n = of (word "define-fun" ∷ word "x" ∷ of [] ∷ of (word "Option" ∷ eight ∷ []) ∷ of (word "some" ∷ bitVec 8 n ∷ []) ∷ [])
+
+-- the name of a variable in the function form, and the other way round, with sorts and bodies that are none
+abbrev turned : List Tree
+turned =
+    of (word "define-fun" ∷ word "x" ∷ of (of (word "a" ∷ word "Zork" ∷ []) ∷ []) ∷ word "Zork" ∷ word "zork" ∷ [])
+    ∷ of (word "define-fun" ∷ word "f" ∷ of [] ∷ word "Zork" ∷ numeral 7 ∷ [])
+    ∷ []
+
 sample : listed (readModel tables model) ≡
     ok (bytes "vars=1\nfuns=1\nvar=x\nsort=2\nvalue=some(bv8:ff)\nfun=f\narg=1\nout=0\nwhen=bv8:00\nthen=true\nwhen=bv8:01\nthen=true\nelse=false\n")
 unfolding joined find at sameText decimal lastDigits digitCountWithin before insert arranged sortRow namedSort variableRow functionRow memberRow shape sortShape _>>=_ unless readSort normal arrangedValues text hex hexDigit read command chain tests key readChain readTests readCommands readModel lastVariable lastFunction rendered listing
 sample = refl
+
+-- a later definition replaces an earlier one, and what is skipped behind it does not
+later-stays : listed (readModel tables (of (define 1 ∷ define 2 ∷ turned))) ≡ ok (bytes "vars=1\nfuns=0\nvar=x\nsort=2\nvalue=some(bv8:02)\n")
+unfolding joined find at sameText decimal lastDigits digitCountWithin before insert arranged sortRow namedSort variableRow functionRow memberRow shape sortShape _>>=_ unless readSort normal arrangedValues text hex hexDigit read command chain tests key readChain readTests readCommands readModel lastVariable lastFunction rendered listing
+later-stays = refl
+
+-- the second command's fault is found, though the first one is right
+later-checked : listed (readModel tables (of (define 1 ∷ of (word "define-fun" ∷ word "x" ∷ []) ∷ []))) ≡ refused UnexpectedModel
+unfolding joined find at sameText decimal lastDigits digitCountWithin before insert arranged sortRow namedSort variableRow functionRow memberRow shape sortShape _>>=_ unless readSort normal arrangedValues text hex hexDigit read command chain tests key readChain readTests readCommands readModel lastVariable lastFunction rendered listing
+later-checked = refl

@@ -1,10 +1,11 @@
-// Bytes moved inside a buffer: drawn together, turned round, cleared.
+// Bytes moved inside a buffer: drawn together, turned round, cleared; and one byte in place of another.
 ghost use mathlib.Core.Path.{_≡_};
 ghost use mathlib.Core.List.{_++_};
 ghost use Prim.Native.Nat.{min, _+_, _-_, _<_, _≤_};
 ghost use lib.ListN.{length, take, drop, replicate};
 ghost use Rattle.lent.specs.Put.{Puts};
 ghost use Rattle.moves.specs.Move.{Swapped};
+ghost use Rattle.moves.specs.Replace.{replacement, replaced};
 
 // The n bytes from j on, moved to w, which is not behind them; answers the place after them.
 pub fn draw(s: &mut [u8], w: usize, j: usize, n: usize) -> usize
@@ -81,6 +82,26 @@ pub fn clear(s: &mut [u8])
     let mut i = 0;
     while i < s.len() {
         s[i] = 0;
+        i += 1;
+    }
+}
+
+fn instead(byte: u8, from: u8, to: u8) -> u8
+    ensures { λ r. ⌜ r ≡ replacement from to byte ⌝ }
+{
+    if byte == from {
+        return to;
+    }
+    byte
+}
+
+// One byte in place of another, wherever that stands.
+pub fn replace(s: &mut [u8], from: u8, to: u8)
+    ensures { λ _. ⌜ now (s .exit) ≡ replaced from to (now (s .entry)) ⌝ }
+{
+    let mut i = 0;
+    while i < s.len() {
+        s[i] = instead(s[i], from, to);
         i += 1;
     }
 }

@@ -25,6 +25,18 @@ pub fn field_end(input: &[u8], start: usize, stop: u8) -> usize
     at
 }
 
+// Where the field behind the one at a place begins, or the case ends.
+pub fn next_field(case: &[u8], at: usize) -> usize
+    ensures { λ r. ⌜ r ≤ length (now (case .entry)) ⌝ }
+{
+    let stop = field_end(case, at, b' ');
+    if stop < case.len() {
+        stop + 1
+    } else {
+        case.len()
+    }
+}
+
 // The bytes that a field's pairs of digits stand for, as many as there is room for.
 pub fn unhex(field: &[u8], out: &mut [u8]) -> usize
     ensures { λ r. ⌜ r ≤ length (now (out .entry)) ⌝ }

@@ -7,6 +7,7 @@ mod puts;
 mod rooms;
 
 pub use fields::field_end;
+pub use fields::next_field;
 pub use fields::number;
 pub use fields::unhex;
 pub use lines::Line;

@@ -2,8 +2,8 @@
 use crate::lists::comma_ends;
 use crate::lists::dotted_ends;
 use crate::lists::letters;
-use crate::lists::next_field;
 use crate::rooms;
+use replay::next_field;
 ghost use Prim.Native.Nat.{_≤_};
 ghost use lib.ListN.{length};
 

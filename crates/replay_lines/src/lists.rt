@@ -2,18 +2,6 @@
 ghost use Prim.Native.Nat.{_≤_};
 ghost use lib.ListN.{length};
 
-// Where the field behind the one at a place begins, or the case ends.
-pub fn next_field(case: &[u8], at: usize) -> usize
-    ensures { λ r. ⌜ r ≤ length (now (case .entry)) ⌝ }
-{
-    let stop = replay::field_end(case, at, b' ');
-    if stop < case.len() {
-        stop + 1
-    } else {
-        case.len()
-    }
-}
-
 // The bytes of the field at a place; the commas of a list are passed over.
 pub fn letters(case: &[u8], start: usize, out: &mut [u8]) -> usize
     ensures { λ r. ⌜ r ≤ length (now (out .entry)) ⌝ }

@@ -5,14 +5,16 @@ use crate::ends::half;
 use crate::index::try_short;
 use crate::merges::merge;
 
-// All records in order at the front, one of each key; answers how many bytes.
-fn sort(s: &mut [u8], scratch: &mut [u8], index: &mut [usize], last: bool) -> usize
+// All records in order at the front, one of each key; answers how many bytes. The index of places stands here, in the frame of a function that
+// calls itself and so is no part of its caller's: a set's writer calls itself for each level of sets, and would hold an index a level.
+fn sort(s: &mut [u8], scratch: &mut [u8], last: bool) -> usize
     ensures { λ r. ⌜ Sorted last (now (s .entry)) (now (s .exit)) r ⌝ }
 {
     if s.len() == 0 {
         return 0;
     }
-    let short = try_short(s, scratch, index, last);
+    let mut index: [usize; 256] = [0; 256];
+    let short = try_short(s, scratch, &mut index, last);
     if short != 0 {
         return short;
     }
@@ -21,8 +23,8 @@ fn sort(s: &mut [u8], scratch: &mut [u8], index: &mut [usize], last: bool) -> us
         return s.len();
     }
     let zero = 0;
-    let m = sort(&mut s[zero..k], scratch, index, last);
-    let n = sort(&mut s[k..], scratch, index, last);
+    let m = sort(&mut s[zero..k], scratch, last);
+    let n = sort(&mut s[k..], scratch, last);
     let e = moves::draw(s, m, k, n);
     merge(&mut s[zero..e], m, scratch, last)
 }
@@ -31,8 +33,7 @@ fn sort(s: &mut [u8], scratch: &mut [u8], index: &mut [usize], last: bool) -> us
 pub fn arrange(s: &mut [u8], scratch: &mut [u8], last: bool) -> usize
     ensures { λ r. ⌜ ArrangedAs last (now (s .entry)) (now (s .exit)) r ⌝ }
 {
-    let mut index: [usize; 256] = [0; 256];
-    let n = sort(s, scratch, &mut index, last);
+    let n = sort(s, scratch, last);
     moves::clear(&mut s[n..]);
     n
 }

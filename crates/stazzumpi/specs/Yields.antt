@@ -10,8 +10,10 @@ use Rattle.arena_check.specs.declared.Checked.{Checked}
 use Rattle.arena_check.specs.Checks.{Checks}
 use Rattle.tables.specs.declared.check.Checked as Tables
 use Rattle.tables.specs.declared.find.Found.{Found}
+use Rattle.tables.specs.Layout.{Lent}
 use Rattle.tables_text.specs.declared.read.TablesRead.{TablesRead}
 use Rattle.tables_text.specs.Read.{Buffers, Reads}
+use Rattle.listing.specs.Lists.{Lists}
 use Rattle.stazzumpi.specs.Exports.{Yield, yields, refuses, Left, exported, Exports, Promises}
 
 -- the length of what was written
@@ -65,3 +67,7 @@ foundRow Found.NoRow = yields (0 ∷ 0 ∷ [])
 -- a lookup, exported, by what the call that it exports finds
 abbrev pub LooksUp : (Found → Type 0) → List ℕ → ℕ → List ℕ → Type 0
 LooksUp finds told r exit = Promises {B = Unit {0}} 2 foundRow (λ answer _. finds answer) told tt r exit tt
+
+-- the listing, exported: at entry the buffer and the slice for numbers, at exit the word, the slice and the buffer
+abbrev pub ListsOut : Lent → List ℕ → List ℕ → List ℕ → List ℕ → ℕ → List ℕ → List ℕ → Type 0
+ListsOut l ws ts out told r toldAfter outAfter = Promises 1 written (λ answer exit. Lists l ws ts out answer exit) told out r toldAfter outAfter

@@ -2,6 +2,7 @@
 mod answer;
 mod lines;
 mod lookups;
+mod models;
 mod rows;
 mod text;
 mod trees;

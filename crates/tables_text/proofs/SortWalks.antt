@@ -57,7 +57,7 @@ record-long : (name rows : List ℕ) → length (sortLine (recordOf name rows)) 
 unfolding joined
 record-long name rows = omega (arith, length-append (joined (bytes " ") (name ∷ map decimal rows)) (bytes "\n"))
 
-half : (x : Sort) → length (fieldsOf x) * 2 ≤ length (sortLine x)
+pub half : (x : Sort) → length (fieldsOf x) * 2 ≤ length (sortLine x)
 half bool = omega arith
 half string = omega arith
 half (ext e) = omega arith

@@ -5,15 +5,15 @@ use mathlib.Core.List.{List, [], _++_, append-assoc, append-nil}
 use Prim.Native.Nat.{ℕ, min, _+_, _-_, _^_, _≤_, _<_}
 use native.Mathlib.Nat.{zero-add}
 use native.Mathlib.Omega.{arith}
-use lib.ListN.{length, take, drop, length-append, length-take, length-drop, drop-of-length-le}
-use lib.Seq.{take-all, take-at, take-take, drop-drop, length-take-le, take-append-add, take-append-le, drop-append-add, drop-append-le}
+use lib.ListN.{length, take, drop, length-append, length-take, length-drop, take-append-drop, drop-of-length-le}
+use lib.Seq.{take-all, take-at, drop-at, take-take, drop-drop, length-take-le, take-append-add, take-append-le, drop-append-add, drop-append-le}
 use borrow.Rule.Slice.PartMut.{putMid, same-len-mid, mid-len, drop-put}
 use Rattle.ground.proofs.Tests.{one-result}
 use Rattle.lent.specs.Put.{Offers}
 use Rattle.lent.proofs.Pieces.{piece-long, piece-front, piece-behind}
 use Rattle.literals.specs.Answer.{capped}
 use Rattle.value_text.specs.Wrote.{Wrote}
-use Rattle.value_text.specs.Laid.{Lays}
+use Rattle.value_text.specs.Laid.{Laid, Lays}
 
 -- what is the same from a place on is the same from a later one on
 drop-later : (m n : ℕ) (a b : List ℕ) → m ≤ n → drop m a ≡ drop m b → drop n a ≡ drop n b
@@ -60,6 +60,15 @@ lays-none a at h = record { after = omega arith; within = omega arith; same = re
 pub lays-as : {x x′ y y′ a b : List ℕ} {at next : ℕ} → x ≡ x′ → y ≡ y′ → Lays x y a b at next → Lays x′ y′ a b at next
 lays-as {x} {x′} {y} {y′} {a} {b} {at} {next} e g f =
     subst (λ (t : List ℕ). Lays t y′ a b at next) e (subst (λ (t : List ℕ). Lays x t a b at next) g f)
+
+-- what stands from a place on, where it was laid
+pub laid-part : {x y b c : List ℕ} {p q : ℕ} → Laid x y b c p q → p + length x ≤ length b → take (q - p) (drop p c) ≡ y
+laid-part {x} {y} {b} {c} {p} {q} d h =
+    let da : q ≡ p + length y = d .after in
+    let dw : length y ≤ length x = d .within in
+    let u : length (take p b) ≡ p = length-take-le p b (omega arith) in
+    let w : c ≡ take p b ++ (y ++ drop q c) = sym (take-append-drop q c) ∙ ap (λ (t : List ℕ). t ++ drop q c) (d .front) ∙ append-assoc (take p b) y (drop q c) in
+    ap (take (q - p)) (ap (drop p) w ∙ drop-at (take p b) (y ++ drop q c) p u) ∙ take-at y (drop q c) (q - p) (let z : length y ≡ q - p = omega arith in z)
 
 -- from the front on
 pub wrote-front : {x y a b : List ℕ} {r : ℕ} → Lays x y a b 0 r → length x ≤ length a → Wrote (length x) y a b r

@@ -2,12 +2,11 @@
 -- Assumes nothing.
 use mathlib.Core.Path.{_≡_, refl, sym, ap, _∙_, subst}
 use mathlib.Core.Bool.{Bool, true, false, true≢false}
-use mathlib.Core.List.{List, [], _∷_, _++_, append-assoc}
+use mathlib.Core.List.{List, [], _∷_, _++_}
 use mathlib.Core.Option.{Option}
 use Prim.Native.Nat.{ℕ, zero, suc, _+_, _-_, _^_, _≤_, _<_}
 use native.Mathlib.Omega.{arith}
-use lib.ListN.{length, take, drop, take-append-drop}
-use lib.Seq.{take-at, drop-at, length-take-le}
+use lib.ListN.{length, take, drop}
 use borrow.Rule.Slice.PartMut.{putMid}
 use Rattle.ground.specs.Bytes.{bytes}
 use Rattle.ground.specs.Lists.{joined}
@@ -39,7 +38,7 @@ use Rattle.value_text.specs.Wrote.{Wrote}
 use Rattle.value_text.specs.Value.{Given, WritesInside, WritesMembers, WritesSet}
 use Rattle.value_text.proofs.Arms.{no-set, same-set, Reads, app-reads, as-empty, as-singleton, as-union, setShape, other-shape, set-app}
 use Rattle.value_text.proofs.Closes.{length-closed}
-use Rattle.value_text.proofs.Lays.{lays-then, lays-put, lays-none, lays-as, lays-part, wrote-front}
+use Rattle.value_text.proofs.Lays.{lays-then, lays-put, lays-none, lays-as, laid-part, lays-part, wrote-front}
 
 abbrev pub setFound : Found → Bool
 setFound Found.Operator = false
@@ -172,15 +171,6 @@ closed-most : (rs : List (List ℕ)) (n : ℕ) → length (run rs) ≤ n → 0 <
 unfolding joined
 closed-most [] n h k = omega arith
 closed-most (r ∷ rs) n h k = omega (arith, length-closed r rs)
-
--- what stands from a place on, where it was laid
-laid-part : {x y b c : List ℕ} {p q : ℕ} → Laid x y b c p q → p + length x ≤ length b → take (q - p) (drop p c) ≡ y
-laid-part {x} {y} {b} {c} {p} {q} d h =
-    let da : q ≡ p + length y = d .after in
-    let dw : length y ≤ length x = d .within in
-    let u : length (take p b) ≡ p = length-take-le p b (omega arith) in
-    let w : c ≡ take p b ++ (y ++ drop q c) = sym (take-append-drop q c) ∙ ap (λ (t : List ℕ). t ++ drop q c) (d .front) ∙ append-assoc (take p b) y (drop q c) in
-    ap (take (q - p)) (ap (drop p) w ∙ drop-at (take p b) (y ++ drop q c) p u) ∙ take-at y (drop q c) (q - p) (let z : length y ≡ q - p = omega arith in z)
 
 module _ (sorts members names ws ts : List ℕ) (i below : ℕ) (a b c : List ℕ) (one two : ℕ) (first : Offers a b 0 (bytes "{") one) (rest : WritesMembers sorts members names ws ts i below b c one two) where
   -- what the members' writer laid, where there is room for the set

@@ -1,22 +1,13 @@
 -- Document 01, "The listing", `{a,b}` ascending by bytes without repeats: a run of members as what stands behind the first brace.
 use mathlib.Core.Path.{_≡_}
-use mathlib.Core.Bool.{true, cond}
-use mathlib.Core.List.{List, [], _∷_, _++_}
+use mathlib.Core.Bool.{true}
+use mathlib.Core.List.{List, _∷_, _++_}
 use Prim.Native.Nat.{ℕ}
-use lib.Dec.{eqb}
 use lib.ListN.{length, take}
 use Rattle.ground.specs.Bytes.{bytes}
 use Rattle.ground.specs.Lists.{all, joined}
 use Rattle.order.specs.Order.{arranged}
-use Rattle.runs.specs.Run.{end, key, run, plain}
-
--- a comma for an end
-unfoldable pub separator : ℕ → ℕ
-separator b = cond (eqb b end) 44 b
-
-unfoldable pub separated : List ℕ → List ℕ
-separated [] = []
-separated (b ∷ bs) = separator b ∷ separated bs
+use Rattle.runs.specs.Run.{key, run, plain}
 
 -- a comma between two, and the brace
 abbrev pub closed : List (List ℕ) → List ℕ

@@ -5,4 +5,6 @@ mod made;
 mod set;
 mod value;
 
+pub use leaf::write_number;
+pub use value::write_inside;
 pub use value::write_value;

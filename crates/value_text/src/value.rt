@@ -23,7 +23,7 @@ ghost use Rattle.lent.specs.Put.{Offers};
 ghost use Rattle.value_text.specs.Value.{WritesValue, WritesApp, WritesSome, WritesInside, WritesMembers, WritesSet, WritesFields, WritesRecord, WritesMade, comma};
 
 // The value at a node in the rest of the buffer from a place on; answers the place after it.
-fn write_inside(
+pub fn write_inside(
     sorts: &[u64],
     members: &[u64],
     names: &[u8],

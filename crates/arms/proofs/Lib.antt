@@ -1,0 +1,6 @@
+pub mod Records
+pub mod Whens
+pub mod Chains
+pub mod Disjuncts
+pub mod Settles
+pub mod Tables

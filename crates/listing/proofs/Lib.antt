@@ -1,0 +1,9 @@
+pub mod Lasts
+pub mod Rows
+pub mod Tallies
+pub mod Sizes
+pub mod Readings
+pub mod Pieces
+pub mod Wholes
+pub mod One
+pub mod Demand

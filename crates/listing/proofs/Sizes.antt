@@ -1,0 +1,127 @@
+-- How long the lines of a row are.
+-- Assumes nothing.
+use mathlib.Core.Path.{_≡_, refl, sym, _∙_}
+use mathlib.Core.Bool.{true, _&&_}
+use mathlib.Core.List.{List, _++_}
+use mathlib.Core.Option.{some}
+use Prim.Native.Nat.{ℕ, min, _+_, _-_, _^_, _≤_, _<_}
+use native.Mathlib.Omega.{arith}
+use lib.Dec.{leb}
+use lib.ListN.{length, length-append}
+use borrow.Author.Tests.{leb-true}
+use Rattle.ground.specs.Bytes.{bytes}
+use Rattle.utf8.proofs.Leads.{both-left}
+use Rattle.lexicon.specs.Symbol.{oneSymbol}
+use Rattle.decimals.specs.Decimal.{digitCount, decimal}
+use Rattle.decimals.proofs.Counts.{count-most}
+use Rattle.decimals.proofs.Texts.{length-decimal}
+use Rattle.tables.specs.declared.row.Range.{Range}
+use Rattle.tables.specs.Layout.{Lent, count, word, nameAt, variableAt, functionAt, tablesOf}
+use Rattle.tables.specs.Range.{Clamps}
+use Rattle.tables.specs.Rules.{nameLimit, nameRight, present, lawful}
+use Rattle.tables.proofs.Lawful.{lawful-parts, variable-right, function-right}
+use Rattle.tables.proofs.Ranges.{length-clamped}
+use Rattle.tables.proofs.Rows.{variable-row, function-row}
+use Rattle.values.specs.Text.{text}
+use Rattle.values.specs.Value.{Value}
+use Rattle.literals.specs.Answer.{capped}
+use Rattle.model.specs.Model.{Table}
+use Rattle.model.specs.Listing.{line, armLines, variableLines, functionLines}
+use Rattle.definitions.specs.Measure.{valueSize, tableSize}
+use Rattle.listing.specs.Lines.{header, variableSize, functionSize}
+
+length-var : (s : List ℕ) → length (line "var" s) ≡ length s + 5
+length-var s = omega (arith, length-append s (bytes "\n"))
+
+length-sort : (s : List ℕ) → length (line "sort" s) ≡ length s + 6
+length-sort s = omega (arith, length-append s (bytes "\n"))
+
+length-value : (s : List ℕ) → length (line "value" s) ≡ length s + 7
+length-value s = omega (arith, length-append s (bytes "\n"))
+
+length-fun : (s : List ℕ) → length (line "fun" s) ≡ length s + 5
+length-fun s = omega (arith, length-append s (bytes "\n"))
+
+length-arg : (s : List ℕ) → length (line "arg" s) ≡ length s + 5
+length-arg s = omega (arith, length-append s (bytes "\n"))
+
+length-out : (s : List ℕ) → length (line "out" s) ≡ length s + 5
+length-out s = omega (arith, length-append s (bytes "\n"))
+
+length-vars : (s : List ℕ) → length (line "vars" s) ≡ length s + 6
+length-vars s = omega (arith, length-append s (bytes "\n"))
+
+length-funs : (s : List ℕ) → length (line "funs" s) ≡ length s + 6
+length-funs s = omega (arith, length-append s (bytes "\n"))
+
+pub length-header : (v f : ℕ) → length (header v f) ≡ digitCount v + digitCount f + 12
+length-header v f =
+    omega (arith, length-append (line "vars" (decimal v)) (line "funs" (decimal f)), length-vars (decimal v), length-funs (decimal f), length-decimal v, length-decimal f)
+
+pub header-small : (v f : ℕ) → length (header v f) ≤ 92
+header-small v f = omega (arith, length-header v f, count-most v, count-most f)
+
+pub header-sum : (v f one two : ℕ) → one ≡ digitCount v → two ≡ digitCount f → one + two ≤ 80
+header-sum v f one two p q = omega (arith, count-most v, count-most f)
+
+pub header-need : (v f one two : ℕ) → one ≡ digitCount v → two ≡ digitCount f → one + two + 12 ≡ length (header v f)
+header-need v f one two p q = omega (arith, length-header v f)
+
+module _ (l : Lent) (row : ℕ) where
+  pub length-variable : (v : Value) → length (variableLines (variableAt l row) (some v)) ≡ variableSize (l .names) (l .variables) row (valueSize v)
+  length-variable v =
+      let n = nameAt (l .names) (l .variables) row in
+      let d = decimal (word (l .variables) row 2) in
+      omega (arith, length-append (line "var" n) (line "sort" d ++ line "value" (text v)), length-append (line "sort" d) (line "value" (text v)), length-var n, length-sort d, length-value (text v), length-decimal (word (l .variables) row 2))
+
+  pub length-function : (t : Table) → length (functionLines (functionAt l row) (some t)) ≡ functionSize (l .names) (l .functions) row (tableSize t)
+  length-function t =
+      let n = nameAt (l .names) (l .functions) row in
+      let a = decimal (word (l .functions) row 2) in
+      let r = decimal (word (l .functions) row 3) in
+      let rest = armLines (t .arms) ++ line "else" (text (t .«else»)) in
+      omega (arith, length-append (line "fun" n) (line "arg" a ++ (line "out" r ++ rest)), length-append (line "arg" a) (line "out" r ++ rest), length-append (line "out" r) rest, length-fun n, length-arg a, length-out r, length-decimal (word (l .functions) row 2), length-decimal (word (l .functions) row 3))
+
+  module _ (rules : lawful (tablesOf l) ≡ true) where
+    variable-name : row < count (l .variables) → length (nameAt (l .names) (l .variables) row) ≤ nameLimit
+    variable-name h =
+        let v = variableAt l row in
+        let e = variable-right (tablesOf l) (lawful-parts (tablesOf l) rules) row v (variable-row l row h) in
+        let f = both-left (nameRight (v .name)) (present (tablesOf l) (v .sort)) e in
+        leb-true (length (v .name)) nameLimit (both-left (leb (length (v .name)) nameLimit) (oneSymbol (v .name)) f)
+
+    function-name : row < count (l .functions) → length (nameAt (l .names) (l .functions) row) ≤ nameLimit
+    function-name h =
+        let v = functionAt l row in
+        let e = function-right (tablesOf l) (lawful-parts (tablesOf l) rules) row v (function-row l row h) in
+        let f = both-left (nameRight (v .name)) (present (tablesOf l) (v .argument)) (both-left (nameRight (v .name) && present (tablesOf l) (v .argument)) (present (tablesOf l) (v .result)) e) in
+        leb-true (length (v .name)) nameLimit (both-left (leb (length (v .name)) nameLimit) (oneSymbol (v .name)) f)
+
+    pub variable-small : (long : ℕ) → row < count (l .variables) → long < 2 ^ 48 → variableSize (l .names) (l .variables) row long ≤ 562949953421312
+    variable-small long h s = omega (arith, variable-name h, count-most (word (l .variables) row 2))
+
+    pub function-small : (long : ℕ) → row < count (l .functions) → long < 2 ^ 48 → functionSize (l .names) (l .functions) row long ≤ 562949953421312
+    function-small long h s = omega (arith, function-name h, count-most (word (l .functions) row 2), count-most (word (l .functions) row 3))
+
+-- summed up as far as a word counts
+three-capped : (a b long : ℕ) → min (min (min (a + b) 18446744073709551615 + 18) 18446744073709551615 + long) 18446744073709551615 ≡ min (a + b + 18 + long) 18446744073709551615
+three-capped a b long = omega arith
+
+four-capped : (a b c long : ℕ) →
+    min (min (min (min (a + b) 18446744073709551615 + c) 18446744073709551615 + 15) 18446744073709551615 + long) 18446744073709551615 ≡ min (a + b + c + 15 + long) 18446744073709551615
+four-capped a b c long = omega arith
+
+module _ (names rows : List ℕ) (row long first size : ℕ) (r : Range) (e : first ≡ word rows row 0) (g : size ≡ word rows row 1) (h : Clamps first size (length names) r) where
+  name-long : r .end - r .start ≡ length (nameAt names rows row)
+  name-long = sym (length-clamped names first size r h) ∙ rw (e, g) refl
+
+  pub variable-sum : (w sort one two three : ℕ) → w ≡ word rows row 2 → sort ≡ digitCount w → one ≡ capped (r .end - r .start + sort) → two ≡ capped (one + 18) → three ≡ capped (two + long) →
+      three ≡ capped (variableSize names rows row long)
+  variable-sum w sort one two three a b c d f =
+      f ∙ rw (d, c, b, a, name-long) (three-capped (length (nameAt names rows row)) (digitCount (word rows row 2)) long)
+
+  pub function-sum : (w x argument result one two three four : ℕ) → w ≡ word rows row 2 → argument ≡ digitCount w → x ≡ word rows row 3 → result ≡ digitCount x →
+      one ≡ capped (r .end - r .start + argument) → two ≡ capped (one + result) → three ≡ capped (two + 15) → four ≡ capped (three + long) →
+      four ≡ capped (functionSize names rows row long)
+  function-sum w x argument result one two three four a b a′ b′ c d f k =
+      k ∙ rw (f, d, c, b, b′, a, a′, name-long) (four-capped (length (nameAt names rows row)) (digitCount (word rows row 2)) (digitCount (word rows row 3)) long)

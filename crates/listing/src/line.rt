@@ -1,0 +1,22 @@
+// Lines of the listing: a label with its sign, a text or a number, and the end of the line.
+use lent::put;
+use value_text::write_number;
+ghost use Rattle.lent.specs.Put.{Offers};
+ghost use Rattle.decimals.specs.Decimal.{decimal};
+ghost use Rattle.listing.specs.Lines.{lineOf};
+
+pub fn write_line(label: &[u8], piece: &[u8], out: &mut [u8], at: usize) -> usize
+    ensures { λ r. ⌜ Offers (now (out .entry)) (now (out .exit)) at (lineOf (now (label .entry)) (now (piece .entry))) r ⌝ }
+{
+    let one = put(label, out, at);
+    let two = put(piece, out, one);
+    put(b"\n", out, two)
+}
+
+pub fn write_number_line(label: &[u8], number: u64, out: &mut [u8], at: usize) -> usize
+    ensures { λ r. ⌜ Offers (now (out .entry)) (now (out .exit)) at (lineOf (now (label .entry)) (decimal number)) r ⌝ }
+{
+    let one = put(label, out, at);
+    let two = write_number(number, out, one);
+    put(b"\n", out, two)
+}

@@ -1,0 +1,155 @@
+// A case in its rooms, and its listing in no room, in just as much as it needs, and in one byte less.
+use lent::Written;
+ghost use Prim.Native.Nat.{_≤_};
+ghost use lib.ListN.{length};
+
+// The number of 26.
+const OUT_ROOM: u64 = 26;
+
+// What is printed, in the program's rooms by the function behind it.
+fn print(
+    kind: u8,
+    tables: &[u8],
+    reply: &[u8],
+    nodes: &mut [u64],
+    text: &mut [u8],
+    stack: &mut [u64],
+    out: &mut [u8],
+) -> usize {
+    if kind == b'M' {
+        return reply::print_reply(tables, reply, out);
+    }
+    let answer = reply::list_in(tables, reply, nodes, text, stack, out);
+    match answer {
+        Written::Length(count) => count,
+        Written::Refused(why) => reply::put_refusal(why, out),
+    }
+}
+
+fn list(
+    kind: u8,
+    tables: &[u8],
+    reply: &[u8],
+    nodes: &mut [u64],
+    text: &mut [u8],
+    stack: &mut [u64],
+    out: &mut [u8],
+) -> Written {
+    if kind == b'M' {
+        return reply::list_reply(tables, reply, out);
+    }
+    reply::list_in(tables, reply, nodes, text, stack, out)
+}
+
+// What an answer tells: a length, or a refusal's detail.
+fn told(answer: Written) -> usize {
+    match answer {
+        Written::Length(count) => count,
+        Written::Refused(why) => why.detail(),
+    }
+}
+
+// The need, and what the listing came to in just as much and in one byte less.
+fn show_told(need: usize, full: Written, short: Written, line: &mut [u8]) {
+    let one = replay::put_named(b"need=", need, line, 0);
+    let two = replay::put_named(b"\nfull=", told(full), line, one);
+    let three = replay::put_named(b"\nshort=", told(short), line, two);
+    replay::finish(line, three);
+}
+
+// The listing in just as much as it needs, and in one byte less.
+fn show_rooms(
+    kind: u8,
+    tables: &[u8],
+    reply: &[u8],
+    nodes: &mut [u64],
+    text: &mut [u8],
+    stack: &mut [u64],
+    out: &mut [u8],
+    need: usize,
+    line: &mut [u8],
+) {
+    if out.len() < need {
+        return;
+    }
+    if need == 0 {
+        return;
+    }
+    let zero = 0;
+    let full = list(
+        kind,
+        tables,
+        reply,
+        nodes,
+        text,
+        stack,
+        &mut out[zero..need],
+    );
+    let less = need - 1;
+    let short = list(
+        kind,
+        tables,
+        reply,
+        nodes,
+        text,
+        stack,
+        &mut out[zero..less],
+    );
+    show_told(need, full, short, line);
+}
+
+// The need of a listing is what it tells in no room.
+fn show_need(
+    kind: u8,
+    tables: &[u8],
+    reply: &[u8],
+    nodes: &mut [u64],
+    text: &mut [u8],
+    stack: &mut [u64],
+    out: &mut [u8],
+    line: &mut [u8],
+) {
+    let zero = 0;
+    let none = list(
+        kind,
+        tables,
+        reply,
+        nodes,
+        text,
+        stack,
+        &mut out[zero..zero],
+    );
+    let Written::Refused(why) = none else {
+        return;
+    };
+    if why.number() != OUT_ROOM {
+        return;
+    }
+    show_rooms(
+        kind,
+        tables,
+        reply,
+        nodes,
+        text,
+        stack,
+        out,
+        why.detail(),
+        line,
+    );
+}
+
+pub fn show_case(
+    kind: u8,
+    tables: &[u8],
+    reply: &[u8],
+    nodes: &mut [u64],
+    text: &mut [u8],
+    stack: &mut [u64],
+    out: &mut [u8],
+    line: &mut [u8],
+) {
+    let count = print(kind, tables, reply, nodes, text, stack, out);
+    replay::flush(out, count);
+    show_need(kind, tables, reply, nodes, text, stack, out, line);
+    replay::finish(line, 0);
+}

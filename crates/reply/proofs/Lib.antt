@@ -1,0 +1,6 @@
+pub mod Lines
+pub mod Trees
+pub mod Spellings
+pub mod Given
+pub mod One
+pub mod Bounds

@@ -1,0 +1,3 @@
+pub mod Reply
+pub mod Read
+pub mod Printed

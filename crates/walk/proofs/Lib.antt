@@ -1,0 +1,4 @@
+pub mod Notes
+pub mod Sizes
+pub mod Lasts
+pub mod Walks

@@ -1,0 +1,132 @@
+-- One command: what is noted of it, by the row of its name.
+-- Assumes nothing.
+use mathlib.Core.Path.{_≡_, refl, sym, ap, _∙_, subst}
+use mathlib.Core.List.{List, [], _∷_}
+use mathlib.Core.Option.{Option, none, some}
+use Prim.Native.Nat.{ℕ, _+_, _*_, _<_}
+use native.Mathlib.Omega.{arith}
+use Rattle.ground.specs.Lists.{at}
+use Rattle.refusals.specs.declared.Refusal.the-variants.{UnexpectedModel}
+use Rattle.arena.specs.Text.{textAt}
+use Rattle.arena.specs.Tree.{Tree}
+use Rattle.tables.specs.declared.find.Found.{Found}
+use Rattle.tables.specs.Find.{found as rowFound, variableRow, functionRow}
+use Rattle.tables.specs.Layout.{Lent, count, word, tablesOf, variableAt, functionAt}
+use Rattle.tables.specs.Lookup.{FindsVariable, FindsFunction}
+use Rattle.tables.proofs.Rows.{variable-row, function-row, variable-within, function-within}
+use Rattle.shapes.specs.Shows.{Standing, Reads}
+use Rattle.sorts.specs.Result.{Result, ok, refused, _>>=_, found}
+use Rattle.values.specs.Value.{Value}
+use Rattle.literals.specs.Plan.{Given}
+use Rattle.commands.specs.declared.command.CommandFound.{CommandFound}
+use Rattle.commands.specs.Command.{Command, variable, function, misshapen, command}
+use Rattle.commands.specs.CommandShows.{CommandShows, CommandAt}
+use Rattle.model.specs.Model.{Table, Definition, isVariable, isFunction, variableValue, functionTable, onRow, readCommand}
+use Rattle.definitions.specs.declared.measure.Measured.{Measured}
+use Rattle.definitions.specs.Measure.{valueSize, tableSize, measured, VariableAt, FunctionAt}
+use Rattle.walk.specs.declared.command.Noted.{Noted}
+use Rattle.walk.specs.Noted.{noted, notedAs, NotesVariable, NotesFunction, NotesAt}
+
+found-row : (o : Option ℕ) (row : ℕ) → Found.Row row ≡ rowFound o → o ≡ some row
+found-row none row e = let z : _≡_ {A = ℕ} 0 1 = cc in absurd (omega arith)
+found-row (some i) row e = let z : row ≡ i = cc in ap some (sym z)
+
+found-none : (o : Option ℕ) → Found.NoRow ≡ rowFound o → o ≡ none
+found-none none e = refl
+found-none (some i) e = let z : _≡_ {A = ℕ} 0 1 = cc in absurd (omega arith)
+
+-- what is noted of a definition that was read
+noted-value : (m : Result Value) (row : ℕ) → notedAs (measured valueSize m) (row * 2) ≡ noted ((m >>= λ x. ok (isVariable row x)) >>= λ d. ok (d ∷ []))
+unfolding _>>=_
+noted-value (ok v) row = refl
+noted-value (refused r) row = refl
+
+noted-table : (m : Result Table) (row : ℕ) → notedAs (measured tableSize m) (row * 2 + 1) ≡ noted ((m >>= λ t. ok (isFunction row t)) >>= λ d. ok (d ∷ []))
+unfolding _>>=_
+noted-table (ok t) row = refl
+noted-table (refused r) row = refl
+
+-- a row that is there
+on-some : {A : Type 0} (l : Lent) (rows : List A) (i : ℕ) (a : A) (rule : ℕ → A → Result Definition) → at rows i ≡ some a →
+    onRow (tablesOf l) rows (some i) rule ≡ (rule i a >>= λ d. ok (d ∷ []))
+unfolding _>>=_
+on-some l rows i a rule e = ap (λ (o : Option _). found UnexpectedModel o >>= λ b. rule i b >>= λ d. ok (d ∷ [])) e
+
+given-itself : (l : Lent) → Given (l .sorts) (l .fields) (l .members) (l .names) l
+given-itself l = record { sorts-are = refl; fields-are = refl; members-are = refl; names-are = refl }
+
+module _ (l : Lent) (ws ts : List ℕ) (offset long : ℕ) (asked : List ℕ) (n : asked ≡ textAt ts offset long) (q : Found) where
+  module _ (f : FindsVariable (l .variables) (l .names) asked q) where
+    -- a row that was found is one of the table
+    pub variable-inside : (row : ℕ) → q ≡ Found.Row row → row < count (l .variables)
+    variable-inside row e = variable-within l row asked (found-row (variableRow (tablesOf l) asked) row (sym e ∙ f l refl refl))
+
+    variable-asked : (name : List ℕ) → Reads name ts offset long → q ≡ rowFound (variableRow (tablesOf l) name)
+    variable-asked name r = f l refl refl ∙ ap (λ (s : List ℕ). rowFound (variableRow (tablesOf l) s)) (n ∙ r .bytes)
+
+    module _ (sort value : ℕ) where
+      pub variable-skipped : q ≡ Found.NoRow → NotesVariable l ws ts offset long sort value Noted.Skipped
+      variable-skipped e name s t r a b =
+          sym (ap (λ (o : Option ℕ). noted (onRow (tablesOf l) (tablesOf l .variables) o (λ i v. variableValue (tablesOf l) v s t >>= λ x. ok (isVariable i x))))
+          (found-none (variableRow (tablesOf l) name) (sym e ∙ variable-asked name r)))
+
+      pub variable-defined : (row : ℕ) → q ≡ Found.Row row → (declared : ℕ) → declared ≡ word (l .variables) row 2 →
+          (m : Measured) → VariableAt (l .sorts) (l .fields) (l .members) (l .names) ws ts declared sort value m →
+          (z : Noted) → z ≡ notedAs m (row * 2) → NotesVariable l ws ts offset long sort value z
+      variable-defined row e declared w m h z k name s t r a b =
+          let p : variableRow (tablesOf l) name ≡ some row = found-row (variableRow (tablesOf l) name) row (sym e ∙ variable-asked name r) in
+          let i = variable-row l row (variable-within l row name p) in
+          let g = subst (λ (d : ℕ). m ≡ measured valueSize (variableValue (tablesOf l) (record { name = variableAt l row .name; sort = d }) s t)) w (h l (given-itself l) (variableAt l row .name) s t a b) in
+          k ∙ ap (λ (y : Measured). notedAs y (row * 2)) g ∙ noted-value (variableValue (tablesOf l) (variableAt l row) s t) row
+          ∙ sym (ap noted
+          (ap (λ (o : Option ℕ). onRow (tablesOf l) (tablesOf l .variables) o (λ i v. variableValue (tablesOf l) v s t >>= λ x. ok (isVariable i x))) p
+          ∙ on-some l (tablesOf l .variables) row (variableAt l row) (λ i v. variableValue (tablesOf l) v s t >>= λ x. ok (isVariable i x)) i))
+
+  module _ (f : FindsFunction (l .functions) (l .names) asked q) where
+    pub function-inside : (row : ℕ) → q ≡ Found.Row row → row < count (l .functions)
+    function-inside row e = function-within l row asked (found-row (functionRow (tablesOf l) asked) row (sym e ∙ f l refl refl))
+
+    function-asked : (name : List ℕ) → Reads name ts offset long → q ≡ rowFound (functionRow (tablesOf l) name)
+    function-asked name r = f l refl refl ∙ ap (λ (s : List ℕ). rowFound (functionRow (tablesOf l) s)) (n ∙ r .bytes)
+
+    module _ (argOffset argLong argSort sort body : ℕ) where
+      pub function-skipped : q ≡ Found.NoRow → NotesFunction l ws ts offset long argOffset argLong argSort sort body Noted.Skipped
+      function-skipped e name x p s t r _ a b c =
+          sym (ap (λ (o : Option ℕ). noted (onRow (tablesOf l) (tablesOf l .functions) o (λ i v. functionTable (tablesOf l) v x p s t >>= λ y. ok (isFunction i y))))
+          (found-none (functionRow (tablesOf l) name) (sym e ∙ function-asked name r)))
+
+      pub function-defined : (row : ℕ) → q ≡ Found.Row row → (argument result : ℕ) → argument ≡ word (l .functions) row 2 → result ≡ word (l .functions) row 3 →
+          (m : Measured) → FunctionAt (l .sorts) (l .fields) (l .members) (l .names) ws ts argument result argOffset argLong argSort sort body m →
+          (z : Noted) → z ≡ notedAs m (row * 2 + 1) → NotesFunction l ws ts offset long argOffset argLong argSort sort body z
+      function-defined row e argument result w v m h z k name x p s t r u a b c =
+          let o : functionRow (tablesOf l) name ≡ some row = found-row (functionRow (tablesOf l) name) row (sym e ∙ function-asked name r) in
+          let i = function-row l row (function-within l row name o) in
+          let g0 = h l (given-itself l) (functionAt l row .name) x p s t u a b c in
+          let g1 = subst (λ (d : ℕ). m ≡ measured tableSize (functionTable (tablesOf l) (record { name = functionAt l row .name; argument = d; result = result }) x p s t)) w g0 in
+          let g = subst (λ (d : ℕ). m ≡ measured tableSize (functionTable (tablesOf l) (record { name = functionAt l row .name; argument = word (l .functions) row 2; result = d }) x p s t)) v g1 in
+          k ∙ ap (λ (y : Measured). notedAs y (row * 2 + 1)) g ∙ noted-table (functionTable (tablesOf l) (functionAt l row) x p s t) row
+          ∙ sym (ap noted
+          (ap (λ (o : Option ℕ). onRow (tablesOf l) (tablesOf l .functions) o (λ i v. functionTable (tablesOf l) v x p s t >>= λ y. ok (isFunction i y))) o
+          ∙ on-some l (tablesOf l .functions) row (functionAt l row) (λ i v. functionTable (tablesOf l) v x p s t >>= λ y. ok (isFunction i y)) i))
+
+-- the command at a node, by its shape
+module _ (l : Lent) (ws ts : List ℕ) (i : ℕ) (q : CommandFound) (h : CommandAt ws ts i q) where
+  shown : (c : CommandFound) → q ≡ c → (t : Tree) → Standing t ws ts i → CommandShows ws ts c (command t)
+  shown c e t s = subst (λ (y : CommandFound). CommandShows ws ts y (command t)) e (h t s)
+
+  as-read : (t : Tree) (c : Command) → command t ≡ c → noted (readCommand (tablesOf l) c) ≡ noted (readCommand (tablesOf l) (command t))
+  as-read t c e = sym (ap (λ (y : Command). noted (readCommand (tablesOf l) y)) e)
+
+  pub command-variable : (long offset sort value : ℕ) → q ≡ CommandFound.Variable long offset sort value → (z : Noted) → NotesVariable l ws ts offset long sort value z → NotesAt l ws ts i z
+  command-variable long offset sort value e z n t s =
+      let w = shown (CommandFound.Variable long offset sort value) e t s in
+      n (w .0) (w .1) (w .2) (w .4) (w .5) (w .6) ∙ as-read t (variable (w .0) (w .1) (w .2)) (w .3)
+
+  pub command-function : (long offset argLong argOffset argSort sort body : ℕ) → q ≡ CommandFound.Function long offset argLong argOffset argSort sort body →
+      (z : Noted) → NotesFunction l ws ts offset long argOffset argLong argSort sort body z → NotesAt l ws ts i z
+  command-function long offset argLong argOffset argSort sort body e z n t s =
+      let w = shown (CommandFound.Function long offset argLong argOffset argSort sort body) e t s in
+      n (w .0) (w .1) (w .2) (w .3) (w .4) (w .6) (w .7) (w .8) (w .9) (w .10) ∙ as-read t (function (w .0) (w .1) (w .2) (w .3) (w .4)) (w .5)
+
+  pub command-misshapen : q ≡ CommandFound.Misshapen → NotesAt l ws ts i (Noted.Refused UnexpectedModel)
+  command-misshapen e t s = as-read t misshapen (shown CommandFound.Misshapen e t s)

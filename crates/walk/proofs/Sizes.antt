@@ -1,0 +1,250 @@
+-- How long a definition can be: 131,300 bytes a node of its command, and two for each byte of the command's text; and where its slot is.
+-- Assumes nothing.
+use mathlib.Core.Path.{_≡_, refl, sym, ap, _∙_, subst}
+use mathlib.Core.Bool.{true, false}
+use mathlib.Core.List.{List, [], _∷_, _++_}
+use mathlib.Core.Option.{Option, none, some}
+use Prim.Native.Nat.{ℕ, _+_, _*_, _^_, _≤_, _<_}
+use native.Mathlib.Omega.{arith}
+use lib.ListN.{length, length-append}
+use Rattle.ground.specs.Bytes.{bytes}
+use Rattle.ground.specs.Lists.{at}
+use Rattle.refusals.specs.declared.Refusal.the-variants.{UnexpectedModel, UnmatchedType, UnexpectedForm}
+use Rattle.arena.specs.Tree.{Tree, Trees, symbol, app, nil, cons, nodes, nodesOf, text as treeText, texts as treeTexts, mostNodes, mostText}
+use Rattle.arena.proofs.Layouts.{nodes-some}
+use Rattle.tables.specs.Find.{variableRow, functionRow}
+use Rattle.tables.specs.Rules.{lawful}
+use Rattle.tables.specs.Sort.{Variable, Function, Tables}
+use Rattle.tables.proofs.Lawful.{lawful-parts}
+use Rattle.sorts.specs.Result.{Result, ok}
+use Rattle.sorts.specs.Sort.{levels}
+use Rattle.values.specs.Text.{text}
+use Rattle.values.specs.Value.{Value, vBool}
+use Rattle.values.proofs.Lengths.{length-true, length-false}
+use Rattle.literals.specs.Literal.{Lit, read}
+use Rattle.meaning.proofs.Finds.{at-within}
+use Rattle.meaning.proofs.Results.{refuses, ok-same, went, passed, was-found}
+use Rattle.meaning.proofs.Sizes.{read-short}
+use Rattle.commands.specs.Command.{Command, Chain, default, arm, chain, tests, key, command}
+use Rattle.commands.proofs.Shapes.{define, CommandView, c-variable, c-function, c-misshapen, command-view, TestView, t-left, t-right, key-view, tests-view, ite, chain-by}
+use Rattle.model.specs.Model.{Arm, armOf, Table, push, Definition, readChain, readTests, bodyBy, readBody, variableValue, functionTable, onRow, readCommand}
+use Rattle.model.specs.Listing.{line, armLines}
+use Rattle.definitions.specs.Measure.{valueSize, tableSize}
+use Rattle.walk.specs.Noted.{slot, size}
+use Rattle.walk.specs.Last.{slots}
+
+abbrev room : Tree → ℕ
+room t = 131300 * nodes t + 2 * length (treeText t)
+
+abbrev rooms : Trees → ℕ
+rooms us = 131300 * nodesOf us + 2 * length (treeTexts us)
+
+room-cons : (u : Tree) (us : Trees) → rooms (cons u us) ≡ room u + rooms us
+room-cons u us = let h = length-append (treeText u) (treeTexts us) in omega arith
+
+-- an application has the room of its parts
+key-room : (x : List ℕ) (test k : Tree) → TestView x test k → room k + 131300 ≤ room test
+key-room x _ k t-left =
+    let p = room-cons (symbol (bytes "=")) (cons (symbol x) (cons k nil)) in
+    let q = room-cons (symbol x) (cons k nil) in
+    let r = room-cons k nil in
+    omega arith
+key-room x _ k t-right =
+    let p = room-cons (symbol (bytes "=")) (cons k (cons (symbol x) nil)) in
+    let q = room-cons k (cons (symbol x) nil) in
+    let r = room-cons (symbol x) nil in
+    omega arith
+
+ite-room : (test value rest : Tree) → room test + room value + room rest ≤ room (ite test value rest)
+ite-room test value rest =
+    let p = room-cons (symbol (bytes "ite")) (cons test (cons value (cons rest nil))) in
+    let q = room-cons test (cons value (cons rest nil)) in
+    let r = room-cons value (cons rest nil) in
+    let s = room-cons rest nil in
+    omega arith
+
+or-room : (us : Trees) → 131300 + rooms us ≤ room (app (cons (symbol (bytes "or")) us))
+or-room us = let p = room-cons (symbol (bytes "or")) us in omega arith
+
+define-room : (name : List ℕ) (us : Trees) (sort body : Tree) → room body ≤ room (define name us sort body)
+define-room name us sort body =
+    let p = room-cons (symbol (bytes "define-fun")) (cons (symbol name) (cons (app us) (cons sort (cons body nil)))) in
+    let q = room-cons (symbol name) (cons (app us) (cons sort (cons body nil))) in
+    let r = room-cons (app us) (cons sort (cons body nil)) in
+    let s = room-cons sort (cons body nil) in
+    let t = room-cons body nil in
+    omega arith
+
+-- a line is six bytes and its text
+when-line : (s : List ℕ) → length (line "when" s) ≡ length s + 6
+when-line s = omega (arith, length-append s (bytes "\n"))
+
+then-line : (s : List ℕ) → length (line "then" s) ≡ length s + 6
+then-line s = omega (arith, length-append s (bytes "\n"))
+
+else-line : (s : List ℕ) → length (line "else" s) ≡ length s + 6
+else-line s = omega (arith, length-append s (bytes "\n"))
+
+push-size : (a : Arm) (t : Table) → tableSize (push a t) ≡ length (text (a .«when»)) + length (text (a .«then»)) + 12 + tableSize t
+push-size a t =
+    let w = line "when" (text (a .«when»)) in
+    let h = line "then" (text (a .«then»)) in
+    let e = line "else" (text (t .«else»)) in
+    omega (
+      arith,
+      length-append (w ++ (h ++ armLines (t .arms))) e,
+      length-append w (h ++ armLines (t .arms)),
+      length-append h (armLines (t .arms)),
+      length-append (armLines (t .arms)) e,
+      when-line (text (a .«when»)),
+      then-line (text (a .«then»)),
+    )
+
+module _ (T : Tables) (rules : lawful T ≡ true) where
+  literal-short : (e : Option ℕ) (t : Tree) (l : Lit) → read T levels e t ≡ ok l → length (text (l .value)) + 100 ≤ room t
+  literal-short e t l m = let h = read-short T rules levels e t l m in let n = nodes-some t in omega arith
+
+  module _ (x : List ℕ) (argument result : ℕ) where
+    key-short : (test k : Tree) (l : Lit) → key x test ≡ some k → read T levels none k ≡ ok l → length (text (l .value)) + 100 ≤ room test
+    key-short test k l e m = omega (arith, literal-short none k l m, key-room x test k (key-view x test k e))
+
+    abbrev ChainShort : Tree → Chain → Type 0
+    ChainShort t c = (table : Table) → readChain T x argument result c ≡ ok table → tableSize table ≤ room t
+
+    end-short : (t : Tree) → ChainShort t (default t)
+    unfolding readChain
+    end-short t table e =
+        let w = went _ _ table e in
+        let p = passed _ UnmatchedType _ table (w .next) in
+        subst (λ (u : Table). tableSize u ≤ room t) (ok-same (p .1)) (omega (arith, literal-short (some result) t (w .got) (w .first), else-line (text (w .got .value))))
+
+    arm-short : (test value rest : Tree) → ChainShort rest (chain rest) → ChainShort (ite test value rest) (arm test value (chain rest))
+    unfolding readChain
+    arm-short test value rest ih table e =
+        let k = went _ _ table e in
+        let m = went _ _ table (k .next) in
+        let l = went _ _ table (m .next) in
+        let p = passed _ UnmatchedType _ table (l .next) in
+        let q = passed _ UnmatchedType _ table (p .1) in
+        let z = went _ _ table (q .1) in
+        subst (λ (u : Table). tableSize u ≤ room (ite test value rest)) (ok-same (z .next))
+        (omega (
+          arith,
+          ih (z .got) (z .first),
+          key-short test (k .got) (m .got) (was-found UnexpectedForm (key x test) (k .got) (k .first)) (m .first),
+          literal-short (some result) value (l .got) (l .first),
+          push-size (armOf (m .got .value) (l .got .value)) (z .got),
+          ite-room test value rest,
+        ))
+
+    tests-short : (us : Trees) (t : Table) → readTests T x argument result us ≡ ok t → tableSize t ≤ 11 + rooms us
+    unfolding readTests
+    tests-short nil t e = subst (λ (u : Table). tableSize u ≤ 11) (ok-same e) (omega (arith, else-line (text (vBool false)), length-false))
+    tests-short (cons test us) t e =
+        let k = went _ _ t e in
+        let m = went _ _ t (k .next) in
+        let p = passed _ UnmatchedType _ t (m .next) in
+        let z = went _ _ t (p .1) in
+        subst (λ (u : Table). tableSize u ≤ 11 + rooms (cons test us)) (ok-same (z .next))
+        (omega (
+          arith,
+          tests-short us (z .got) (z .first),
+          key-short test (k .got) (m .got) (was-found UnexpectedForm (key x test) (k .got) (k .first)) (m .first),
+          push-size (armOf (m .got .value) (vBool true)) (z .got),
+          length-true,
+          room-cons test us,
+        ))
+
+    body-short : (body : Tree) (t : Table) → readBody T x argument result body ≡ ok t → tableSize t ≤ room body
+    body-short body t e = go (tests body) refl e
+      where
+        go : (u : Option Trees) → tests body ≡ u → bodyBy T x argument result body u ≡ ok t → tableSize t ≤ room body
+        go none h m = chain-by ChainShort end-short arm-short body t m
+        go (some us) h m =
+            let p = passed _ UnmatchedType _ t m in
+            subst (λ (b : Tree). tableSize t ≤ room b) (sym (tests-view body us h)) (omega (arith, tests-short us t (p .1), or-room us))
+
+  value-short : (v : Variable) (sort t : Tree) (x : Value) → variableValue T v sort t ≡ ok x → valueSize x ≤ room t
+  value-short v sort t x e =
+      let s = went _ _ x e in
+      let l = went _ _ x (s .next) in
+      let p = passed _ UnmatchedType _ x (l .next) in
+      let r = passed _ UnmatchedType _ x (p .1) in
+      subst (λ (y : Value). valueSize y ≤ room t) (ok-same (r .1)) (omega (arith, literal-short (some (s .got)) t (l .got) (l .first)))
+
+  table-short : (f : Function) (x : List ℕ) (argSort sort body : Tree) (t : Table) → functionTable T f x argSort sort body ≡ ok t → tableSize t ≤ room body
+  table-short f x argSort sort body t e =
+      let a = went _ _ t e in
+      let r = went _ _ t (a .next) in
+      let p = passed _ UnmatchedType _ t (r .next) in
+      let q = passed _ UnmatchedType _ t (p .1) in
+      body-short x (a .got) (r .got) body t (q .1)
+
+  -- a definition that a command gives: it is alone, it has a slot, and it is short
+  pub record Given (t : Tree) (d : Definition) (ds : List Definition) : Type 0 where
+    pub alone : ds ≡ []
+    pub placed : slot d < slots
+    pub short : size d ≤ 131300 * nodes t + 2 * length (treeText t)
+
+  record Ruled {A : Type 0} (rows : List A) (rule : ℕ → A → Result Definition) (d : Definition) (ds : List Definition) : Type 0 where
+    row : ℕ
+    it : A
+    there : at rows row ≡ some it
+    ruled : rule row it ≡ ok d
+    alone : ds ≡ []
+
+  head-same : {A : Type 0} {a b : A} {as′ bs : List A} → a ∷ as′ ≡ b ∷ bs → a ≡ b
+  head-same e = cc
+
+  tail-same : {A : Type 0} {a b : A} {as′ bs : List A} → a ∷ as′ ≡ b ∷ bs → as′ ≡ bs
+  tail-same e = cc
+
+  no-one : {A : Type 0} {a : A} {as′ : List A} → [] ≡ a ∷ as′ → ⊥
+  no-one e = let z : _≡_ {A = ℕ} 0 1 = cc in absurd (omega arith)
+
+  on-row : {A : Type 0} (rows : List A) (o : Option ℕ) (rule : ℕ → A → Result Definition) (d : Definition) (ds : List Definition) → onRow T rows o rule ≡ ok (d ∷ ds) → Ruled rows rule d ds
+  on-row rows none rule d ds e = absurd (no-one (ok-same e))
+  on-row rows (some j) rule d ds e =
+      let a = went _ _ (d ∷ ds) e in
+      let k = went _ _ (d ∷ ds) (a .next) in
+      let s : k .got ∷ [] ≡ d ∷ ds = ok-same (k .next) in
+      record {
+        row = j;
+        it = a .got;
+        there = was-found UnexpectedModel (at rows j) (a .got) (a .first);
+        ruled = k .first ∙ ap ok (head-same s);
+        alone = sym (tail-same s);
+      }
+
+  command-given : (t : Tree) (c : Command) → CommandView t c → (d : Definition) (ds : List Definition) → readCommand T c ≡ ok (d ∷ ds) → Given t d ds
+  command-given _ _ (c-variable {name = name} {sort = sort} {t = t}) d ds e =
+      let r = on-row (T .variables) (variableRow T name) _ d ds e in
+      let w = went _ _ d (r .ruled) in
+      let i = at-within (T .variables) (r .row) (r .it) (r .there) in
+      let few = lawful-parts T rules .variables .few in
+      subst (λ (y : Definition). Given (define name nil sort t) y ds) (ok-same (w .next))
+      (record {
+        alone = r .alone;
+        placed = omega (arith, i, few);
+        short = omega (arith, value-short (r .it) sort t (w .got) (w .first), define-room name nil sort t);
+      })
+  command-given _ _ (c-function {name = name} {x = x} {argSort = argSort} {sort = sort} {body = body}) d ds e =
+      let r = on-row (T .functions) (functionRow T name) _ d ds e in
+      let w = went _ _ d (r .ruled) in
+      let i = at-within (T .functions) (r .row) (r .it) (r .there) in
+      let few = lawful-parts T rules .functions .few in
+      let us = cons (app (cons (symbol x) (cons argSort nil))) nil in
+      subst (λ (y : Definition). Given (define name us sort body) y ds) (ok-same (w .next))
+      (record {
+        alone = r .alone;
+        placed = omega (arith, i, few);
+        short = omega (arith, table-short (r .it) x argSort sort body (w .got) (w .first), define-room name us sort body);
+      })
+  command-given _ _ c-misshapen d ds e = refuses e
+
+  pub tree-given : (t : Tree) (d : Definition) (ds : List Definition) → readCommand T (command t) ≡ ok (d ∷ ds) → Given t d ds
+  tree-given t d ds e = command-given t (command t) (command-view t) d ds e
+
+  -- of a tree that an arena holds
+  pub given-small : (t : Tree) (d : Definition) (ds : List Definition) → Given t d ds → nodes t ≤ mostNodes → length (treeText t) ≤ mostText → size d < 2 ^ 48
+  given-small t d ds g h k = omega (arith, g .short, h, k)

@@ -1,0 +1,7 @@
+// The walk over a model's commands: each is checked, and of each name in the tables the last definition is noted.
+mod command;
+mod last;
+mod walk;
+
+pub use walk::Walked;
+pub use walk::walk_commands;
