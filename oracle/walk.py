@@ -1,19 +1,19 @@
 """Document 01's model walk and listing read a second time, in Python, from its words alone.
 
 Beside document 01's rules it knows, one by one, the crate's ways that docs/DIFFERENCES.md lists: with all of
-them taken up its answers have to be the crate's, with none of them they are document 01's.
+them taken up its answers have to be the crate's, with none of them they are document 01's. A walk notes which of them it meets.
 """
 
 from typing import NamedTuple, Optional
 
+from operators import OPERATORS, Beyond
 from reading import Arena, Refused, answered
 
 DEEPEST = 1023
 BOOL, STRING, ADDRESS = ("bool",), ("string",), ("ipaddr",)
 PLAIN = {b"Bool": BOOL, b"String": STRING, b"Decimal": ("decimal",), b"Datetime": ("datetime",), b"Duration": ("duration",)}
 SIGNED = {b"Decimal": "d", b"Datetime": "t", b"Duration": "u"}
-OPERATORS = {(b"not", 2), (b"or", 3), (b"=", 3), (b"ite", 4), (b"bvnego", 2), (b"bvsaddo", 3), (b"bvsmulo", 3), (b"V4", 3), (b"V6", 3)}
-CRATE = frozenset(["D1", "D2", "D3", "D4", "D5", "D6", "D7", "D8", "S2", "S3"])
+CRATE = frozenset(["D1", "D2", "D3", "D4", "D5", "D6", "D7", "D8", "S1", "S2", "S3"])
 
 
 class Value(NamedTuple):
@@ -117,25 +117,28 @@ class Walk:
         self.tables = Tables(tables, ways)
         self.known = set(self.tables.sorts)
         self.vars, self.funs = {}, {}
+        self.parted, self.done = set(), 0
 
-    def has(self, way):
+    def takes(self, way):
+        """Asked where document 01 and the crate part, and nowhere else: notes which difference it is; whether the crate's way is taken."""
+        self.parted.add(way)
         return way in self.ways
 
     def met(self, sort):
         """A sort met or formed needs a row."""
-        if sort not in self.known and not self.has("S2"):
+        if sort not in self.known and not self.takes("S2"):
             raise Refused(23)
         return sort
 
     def enter(self, level):
-        if level > DEEPEST and not self.has("S3"):
+        if level > DEEPEST and not self.takes("S3"):
             raise Refused(24)
 
     def sort(self, node, level=0):
         self.enter(level)
         if is_symbol(node):
             name = node[1]
-            if name == b"IPAddr" and self.has("D3"):
+            if name == b"IPAddr" and self.takes("D3"):
                 return ADDRESS
             if name in PLAIN:
                 return self.met(PLAIN[name])
@@ -175,9 +178,9 @@ class Walk:
     def atom(self, name, expected):
         if name in (b"true", b"false"):
             return plain(self.met(BOOL), name.decode())
-        if name == b"none" and self.has("D1") and expected and expected[0] == "option":
+        if name == b"none" and expected and expected[0] == "option" and self.takes("D1"):
             return plain(expected, "none")
-        if name in self.tables.named and self.has("D2"):
+        if name in self.tables.named and self.takes("D2"):
             return self.named(name, [], 0)
         if name in self.tables.enums:
             return self.tables.enums[name]
@@ -187,7 +190,7 @@ class Walk:
         """The arms of `decode_literal_app`, in order."""
         head = node[0][1] if node and is_symbol(node[0]) else None
         if (head, len(node)) in OPERATORS:
-            raise Refused(22)
+            return self.worked_out(node, expected, level)
         if head == b"as" and len(node) == 3 and is_symbol(node[1], b"none"):
             return self.empty("option", node[2], level)
         if head is None and len(node) == 2 and is_app(node[0], b"as", 3) and is_symbol(node[0][1], b"some"):
@@ -210,6 +213,17 @@ class Walk:
         if head is not None:
             return self.named(head, node[1:], level)
         raise Refused(15)
+
+    def worked_out(self, node, expected, level):
+        """An operator; the branches of `ite` alone are handed an expectation."""
+        name = node[0][1]
+        if not self.takes("S1"):
+            raise Refused(22)
+        if name in (b"V4", b"V6"):
+            raise Beyond
+        inner = expected if name == b"ite" else None
+        found = OPERATORS[name, len(node)](*[self.value(part, inner if place else None, level + 1) for place, part in enumerate(node[1:])])
+        return found if isinstance(found, Value) else plain(BOOL, "true" if found else "false")
 
     @staticmethod
     def inside(kind, expected):
@@ -279,19 +293,19 @@ class Walk:
                 return self.value(node[2])
             if is_symbol(node[2], arg):
                 return self.value(node[1])
-        raise Refused(13 if self.has("D5") else 21)
+        raise Refused(13 if self.takes("D5") else 21)
 
     def fits(self, value, sort):
-        if value.sort != sort and not self.has("D6"):
+        if value.sort != sort and not self.takes("D6"):
             raise Refused(16)
 
     def body(self, node, arg, sort, out):
         """The arms of a function's body as they are written, and the default."""
         true, false = plain(BOOL, "true"), plain(BOOL, "false")
-        if is_app(node, b"=") and self.has("D4"):
+        if is_app(node, b"=") and self.takes("D4"):
             return [(self.test(node, arg), true)], false
         if is_app(node, b"or"):
-            if out != BOOL and not self.has("D7"):
+            if out != BOOL and not self.takes("D7"):
                 raise Refused(16)
             arms = []
             for part in node[1:]:
@@ -336,6 +350,14 @@ class Walk:
         else:
             raise Refused(13)
 
+    def run(self, root):
+        """All commands in order."""
+        if not isinstance(root, list):
+            raise Refused(13)
+        for node in root:
+            self.command(node)
+            self.done += 1
+
     @staticmethod
     def settled(arms):
         """The arms in the listing's order; a later one with an equal key replaces an earlier one."""
@@ -360,12 +382,8 @@ class Walk:
 
 def walked(tables, arena, ways=frozenset()):
     """The walk over a model that has been read."""
-    root = tree(arena)
     walk = Walk(tables, ways)
-    if not isinstance(root, list):
-        raise Refused(13)
-    for node in root:
-        walk.command(node)
+    walk.run(tree(arena))
     return walk
 
 
@@ -375,11 +393,53 @@ def listings(line, ways=frozenset()):
     return answered(lambda: "listing=" + walked(tables, Arena(model), ways).listing().encode().hex())
 
 
+class Answer(NamedTuple):
+    """A walk's answer in the oracle's form, None where the crate is not followed; the listing's need; the differences met, and the command
+    that the walk ended at."""
+
+    told: Optional[str]
+    need: Optional[int]
+    met: frozenset
+    ended: int
+
+
+class Model:
+    """Tables and a reply, read once and walked with one set of ways after the other."""
+
+    def __init__(self, tables, reply):
+        self.tables, self.root, self.refusal = tables, None, None
+        try:
+            self.root = tree(Arena(reply))
+        except Refused as refusal:
+            self.refusal = str(refusal)
+
+    def answer(self, ways=frozenset()):
+        if self.refusal:
+            return Answer(self.refusal, None, frozenset(), 0)
+        walk, need = Walk(self.tables, ways), None
+        try:
+            walk.run(self.root)
+            told, need = "listing=" + walk.listing().encode().hex(), len(walk.listing(True).encode())
+        except Refused as refusal:
+            told = str(refusal)
+        except Beyond:
+            told = None
+        return Answer(told, need, frozenset(walk.parted), walk.done)
+
+    def followed(self, plain):
+        """The crate's answer, and the differences that its walk meets; `plain` is the answer without any of its ways."""
+        # D8 shows in no single place: it is met where the walk without it is another.
+        twins = self.tables.count(b"sort=record ") > 1
+        if not plain.met and not twins:
+            return plain
+        crate = self.answer(CRATE)
+        if twins and self.answer(CRATE - {"D8"}) != crate:
+            crate = crate._replace(met=crate.met | {"D8"})
+        return crate
+
+
 def explanation(case, found):
-    """Why the crate's listing parts from document 01's: the ways without which its answer is not reached, or None."""
-    followed = listings(case, CRATE)
-    if followed == found:
-        needed = [way for way in sorted(CRATE) if listings(case, CRATE - {way}) != found]
-        return " ".join(needed) or "several ways to the same answer"
-    # What the crate works out where document 01 says 22 is not followed here.
-    return "S1" if followed == "refused=22" else None
+    """Why the crate's listing parts from document 01's: the differences that its walk meets, or None where they do not lead to its answer."""
+    model = Model(*(bytes.fromhex(part) for part in case.split(" ")))
+    crate = model.followed(model.answer())
+    return " ".join(sorted(crate.met)) if crate.told in (found, None) else None

@@ -11,6 +11,8 @@ mod inputs;
 mod lent;
 mod lines;
 mod listings;
+#[cfg(feature = "ours")]
+mod models;
 mod numbers;
 #[cfg(any(feature = "ours", feature = "bench"))]
 mod ours;
@@ -40,7 +42,9 @@ pub fn run() -> Result<(), Fault> {
         "trees" => trees::answer,
         "lines" => lines::answer,
         "listings" => listings::answer,
-        _ => return Err("usage: oracle strings|trees|lines|listings, a case a line".into()),
+        #[cfg(feature = "ours")]
+        "ours" => models::answer,
+        _ => return Err("usage: oracle strings|trees|lines|listings, or ours where it is linked, a case a line".into()),
     };
     let mut out = io::BufWriter::new(io::stdout().lock());
     for (at, line) in io::stdin().lock().lines().enumerate() {

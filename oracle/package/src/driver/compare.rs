@@ -4,24 +4,25 @@
 use super::inputs::{all, damaged, smallest, Random};
 use super::lent::Marked;
 use super::ours::{self, Line};
-use super::{hex, lines, strings, trees, Fault};
+use super::trees::{self, Arena};
+use super::{hex, lines, strings, Fault};
 use std::io::BufRead;
 
 /// What the crate answers: numbers to be told and the texts that buffers then start with, or a refusal's number.
-type Wanted<T> = Result<T, u64>;
+pub type Wanted<T> = Result<T, u64>;
 
 const INPUT_TOO_LONG: u64 = 9;
 const NODE_ROOM: u64 = 10;
 const TEXT_ROOM: u64 = 11;
 const DEPTH_ROOM: u64 = 12;
-const OUT_ROOM: u64 = 26;
+pub const OUT_ROOM: u64 = 26;
 
 /// What a call answers to a refusal with a need.
-fn short(number: u64, need: usize) -> u64 {
+pub fn short(number: u64, need: usize) -> u64 {
     number + 256 * need as u64
 }
 
-fn same(what: &str, found: u64, wanted: u64) -> Result<(), String> {
+pub fn same(what: &str, found: u64, wanted: u64) -> Result<(), String> {
     if found == wanted {
         return Ok(());
     }
@@ -59,8 +60,12 @@ fn line(line: &Line) -> Result<(), String> {
     text_call("script line", &Ok(lines::written(line)?), OUT_ROOM, |out, told| ours::write(line, out, told))
 }
 
-/// The crate's tree as document 01's arena, and ours, in rooms that are just enough, larger, and one short of each.
 fn reading(bytes: &[u8]) -> Result<(), String> {
+    arena(bytes).map(drop)
+}
+
+/// The crate's tree as document 01's arena, and ours, in rooms that are just enough, larger, and one short of each.
+pub fn arena(bytes: &[u8]) -> Result<Wanted<Arena>, String> {
     let wanted = trees::arena(bytes)?;
     let (mut nodes, mut text) = (Marked::<u64>::default(), Marked::<u8>::default());
     let (mut stack, mut told) = (Marked::<u64>::default(), Marked::<u64>::default());
@@ -100,7 +105,7 @@ fn reading(bytes: &[u8]) -> Result<(), String> {
         same("check_arena", ours::check_arena(&words, &arena.text, told.lend(3)), 0)?;
         told.holds(&[needs[0] as u64, needs[1] as u64]).map_err(|fault| format!("check_arena, told: {fault}"))?;
     }
-    Ok(())
+    Ok(wanted)
 }
 
 /// A difference, with the smallest input that shows one.

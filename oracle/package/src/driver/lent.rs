@@ -35,6 +35,16 @@ impl<T: Mark> Marked<T> {
         &mut self.all[GUARD..GUARD + size]
     }
 
+    /// A slice that starts with these, for a call to read, and so many marked elements behind them.
+    pub fn put(&mut self, front: &[T], more: usize) {
+        self.lend(front.len() + more)[..front.len()].copy_from_slice(front);
+    }
+
+    /// The slice as it is now.
+    pub fn slice(&self) -> &[T] {
+        &self.all[GUARD..GUARD + self.size]
+    }
+
     /// Whether the slice now starts with these, and every other element is as it was marked.
     pub fn holds(&self, front: &[T]) -> Result<(), String> {
         if self.size < front.len() {

@@ -14,6 +14,29 @@ extern "C" {
     #[allow(improper_ctypes)]
     fn stazzumpi_check_tables(sorts: &[u64], fields: &[u64], variables: &[u64], functions: &[u64], members: &[u64], names: &[u8]) -> u64;
     #[allow(improper_ctypes)]
+    fn stazzumpi_read_tables(
+        text: &[u8],
+        sorts: &mut [u64],
+        fields: &mut [u64],
+        variables: &mut [u64],
+        functions: &mut [u64],
+        members: &mut [u64],
+        told: &mut [u64],
+    ) -> u64;
+    #[allow(improper_ctypes)]
+    fn stazzumpi_list_model(
+        sorts: &[u64],
+        fields: &[u64],
+        variables: &[u64],
+        functions: &[u64],
+        members: &[u64],
+        names: &[u8],
+        nodes: &[u64],
+        text: &[u8],
+        out: &mut [u8],
+        told: &mut [u64],
+    ) -> u64;
+    #[allow(improper_ctypes)]
     fn stazzumpi_set_logic(logic: &[u8], out: &mut [u8], told: &mut [u64]) -> u64;
     #[allow(improper_ctypes)]
     fn stazzumpi_set_option(option: &[u8], value: &[u8], out: &mut [u8], told: &mut [u64]) -> u64;
@@ -55,6 +78,18 @@ pub fn check_arena(words: &[u64], text: &[u8], told: &mut [u64]) -> u64 {
 
 pub fn check_tables(sorts: &[u64], fields: &[u64], variables: &[u64], functions: &[u64], members: &[u64], names: &[u8]) -> u64 {
     unsafe { stazzumpi_check_tables(sorts, fields, variables, functions, members, names) }
+}
+
+/// The five lists that tables are read into: sorts, fields, variables, functions, members.
+pub fn read_tables(text: &[u8], lists: [&mut [u64]; 5], told: &mut [u64]) -> u64 {
+    let [sorts, fields, variables, functions, members] = lists;
+    unsafe { stazzumpi_read_tables(text, sorts, fields, variables, functions, members, told) }
+}
+
+/// The same five lists, and an arena.
+pub fn list_model(lists: [&[u64]; 5], names: &[u8], nodes: &[u64], text: &[u8], out: &mut [u8], told: &mut [u64]) -> u64 {
+    let [sorts, fields, variables, functions, members] = lists;
+    unsafe { stazzumpi_list_model(sorts, fields, variables, functions, members, names, nodes, text, out, told) }
 }
 
 /// A list as the script's calls take it: the texts one after the other, and where each ends.
