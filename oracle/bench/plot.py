@@ -1,4 +1,4 @@
-"""The plot: MB/s of each reader by input, as bars on a logarithmic axis, and ns a byte by size, as lines."""
+"""The plot: MB/s of each reader by input, as bars on a logarithmic axis, and ns a byte by size and by arms, as lines."""
 
 import math
 from xml.sax.saxutils import escape
@@ -58,9 +58,9 @@ def bars(rows, top):
     return parts, bottom + 32
 
 
-def lines(rows, top, height=170):
+def lines(rows, top, readers=WHO, height=170):
     """The lines of growth, and where they end."""
-    most = max(getattr(row, who) / row.size for row in rows for who, _ in WHO) * 1.1
+    most = max(getattr(row, who) / row.size for row in rows for who, _ in readers) * 1.1
     bottom = top + height
     across = lambda row: LEFT + SPAN * math.log2(row.size / rows[0].size) / math.log2(rows[-1].size / rows[0].size)
     up = lambda value: bottom - height * value / most
@@ -72,7 +72,7 @@ def lines(rows, top, height=170):
                   text(LEFT - 8, up(mark * step) + 4, f"{mark * step:g}", "end")]
     for row in rows:
         parts.append(text(across(row), bottom + 16, row.name, "middle"))
-    for who, colour in WHO:
+    for who, colour in readers:
         points = [(across(row), up(getattr(row, who) / row.size)) for row in rows]
         joined = " ".join(f"{x:.1f},{y:.1f}" for x, y in points)
         parts.append(f'<polyline points="{joined}" fill="none" stroke="{colour}" stroke-width="2"/>')
@@ -89,6 +89,10 @@ def drawing(results):
     y += 40
     parts.append(text(20, y, "How time grows from 1 to 16 MiB", size=16, weight="bold"))
     body, y = lines(results.growth, y + 20)
+    parts += body
+    y += 40
+    parts.append(text(20, y, "Reading and listing a function, arms in random order, by their number", size=16, weight="bold"))
+    body, y = lines([row._replace(name=f"{int(row.name):,}") for row in results.arms["random"]], y + 20, WHO[:2])
     parts += body
     height = y + 20
     return "\n".join([

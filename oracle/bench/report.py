@@ -4,8 +4,9 @@ from pathlib import Path
 from typing import NamedTuple
 
 TEMPLATE = Path(__file__).with_name("template.md")
-# The reader's bar: so many times the crate on the real replies.
+# The bar of the reader, and of reading and listing: so many times the crate on the real replies.
 BAR = 3
+ORDERS = ("random", "sorted", "reversed")
 
 
 class Reading(NamedTuple):
@@ -17,6 +18,24 @@ class Reading(NamedTuple):
     ours: float
     cleared: float
     plain: float
+
+
+class Listing(NamedTuple):
+    """Nanoseconds a model: the crate's, ours in buffers used before and in cleared ones; then the parts, the crate's three and ours."""
+    name: str
+    size: int
+    nodes: int
+    listing: int
+    crate: float
+    ours: float
+    cleared: float
+    maps: float
+    crate_reading: float
+    decoding: float
+    reading: float
+    listed: float
+    tables: float
+    arena: float
 
 
 def rate(size, time):
@@ -41,6 +60,14 @@ class Results:
                          + readings["made"])
         self.real = readings["real"]
         self.check, self.script, self.lookups = parts["check"][0], parts["script"], parts["lookup"]
+        listings = {part: [Listing(row[0], *map(int, row[1:4]), *map(float, row[4:])) for row in parts[part]]
+                    for part in ("listed", *ORDERS, "sets", "full")}
+        self.arms = {order: listings[order] for order in ORDERS}
+        *self.listed, self.listed_all = listings["listed"]
+        self.listings = (listings["listed"]
+                         + [one._replace(name=f"{int(one.name):,} arms, {order}") for order in ORDERS for one in self.arms[order]]
+                         + [one._replace(name=f"{int(one.name):,} members in balanced unions") for one in listings["sets"]]
+                         + [one._replace(name=f"full tables, names of {one.name} bytes") for one in listings["full"]])
 
 
 def table(head, rows):
@@ -102,6 +129,51 @@ def lookups(results):
                   "ours to the map, times as long"], rows)
 
 
+def micro(*times):
+    """Nanoseconds as microseconds."""
+    return [amount(time / 1e3) for time in times]
+
+
+def listings(results):
+    rows = [[one.name, f"{one.size:,}", f"{one.listing:,}", *micro(one.crate, one.ours, one.cleared),
+             f"{one.crate / one.ours:.2f}", f"{one.crate / one.cleared:.2f}"] for one in results.listings]
+    return table(["model", "bytes", "bytes of the listing", "crate, us", "ours, us", "ours, cleared first, us",
+                  "ours to crate, times", "cleared first, times"], rows)
+
+
+def apart(results):
+    rows = [[one.name, *micro(one.maps, one.crate_reading, one.decoding, one.reading, one.listed, one.tables, one.arena)]
+            for one in results.listings]
+    return table(["model", "crate: maps, us", "reading, us", "decoding, us", "ours: reading, us", "listing with its checks, us",
+                  "of it the check of 25, us", "of it the check of 27, us"], rows)
+
+
+def grown_arms(results):
+    rows = []
+    for order, (first, *_, last) in results.arms.items():
+        times = [f"{getattr(last, who) / getattr(first, who):.0f}" for who in ("crate", "ours", "cleared", "reading", "listed")]
+        rows.append([f"{order}, from {int(first.name):,} to {int(last.name):,} arms", f"{int(last.name) // int(first.name)}", *times])
+    return table(["order", "arms, times", "crate, times as long", "ours", "ours, cleared first", "our reading alone",
+                  "our listing alone"], rows)
+
+
+def verdict_listed(results):
+    """Whether the two bars of reading and listing are met, as measured."""
+    whole = results.listed_all
+    times = whole.crate / whole.ours
+    said = "met" if BAR <= times else "not met"
+    single = ", ".join(f"{one.crate / one.ours:.2f}" for one in results.listed)
+    arms = [one for rows in results.arms.values() for one in rows]
+    slower = [one.name for one in results.listings if "arms" in one.name and one.crate < one.ours]
+    least = min(one.crate / one.ours for one in arms)
+    second = (f"**not met**: ours is slower at {'; '.join(slower)}" if slower else
+              f"**met**: at the least ours is {least:.2f} times as fast")
+    return (f"Reading and listing together, the crate's maps and our checks among them: the bar is {BAR} times the crate on the real "
+            f"replies. **It is {said}**: {whole.name} take ours {amount(whole.ours / 1e6)} ms and the crate "
+            f"{amount(whole.crate / 1e6)} ms, {times:.2f} times. On document 01's sample and the single replies below, in their order: {single} times. The second bar, no number of "
+            f"arms up to {max(int(one.name) for one in arms):,} at which ours is slower, is {second}.")
+
+
 def verdict(results):
     """Whether the bar is met, as measured."""
     whole = results.all
@@ -119,5 +191,6 @@ def document(results, machine):
         verdict=verdict(results), rounds=results.rounds, sample=results.sample,
         machine=table(["what", "which"], [list(row) for row in machine]),
         readings=readings(results), growth=growth(results), check=check(results), script=script(results),
-        lookups=lookups(results),
+        lookups=lookups(results), verdict_listed=verdict_listed(results), listings=listings(results), apart=apart(results),
+        grown_arms=grown_arms(results),
         grown=f"{last.ours / first.ours:.1f}", larger=f"{last.size // first.size}", crate_grown=f"{last.crate / first.crate:.1f}")

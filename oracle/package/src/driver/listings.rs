@@ -36,14 +36,14 @@ fn decoded<'a>(model: &[u8], env: &'a SymEnv, tables: &Tables) -> Result<Interpr
 }
 
 /// Decoding hands the environment on unread.
-fn empty_env() -> SymEnv {
+pub fn empty_env() -> SymEnv {
     let blank = || Term::from(false);
     let request = SymRequest { principal: blank(), action: blank(), resource: blank(), context: blank() };
     SymEnv { request, entities: Arc::new(SymEntities(BTreeMap::new())) }
 }
 
 /// Definitions are looked up by name alone: the crate's keys hold sorts too, whose order can take long to find.
-fn listing(tables: &Tables, found: &Interpretation<'_>) -> String {
+pub fn listing(tables: &Tables, found: &Interpretation<'_>) -> String {
     let mut out = format!("vars={}\nfuns={}\n", found.vars.len(), found.funs.len());
     let vars: BTreeMap<_, _> = found.vars.iter().map(|(var, value)| (var.id.as_str(), value)).collect();
     for (var, row) in &tables.vars {

@@ -3,6 +3,7 @@
 use crate::driver::Fault;
 
 /// A real reply and its file's name.
+#[derive(Clone)]
 pub struct Reply {
     pub name: String,
     pub bytes: Vec<u8>,
@@ -19,6 +20,9 @@ impl Reply {
 pub const SAMPLE: &str = "((define-fun x () (Option (_ BitVec 8)) (some #xfF))
 (define-fun f ((a (_ BitVec 8))) Bool (or (= a #b00000001) (= #x00 a))))
 ";
+
+/// Its tables.
+pub const SAMPLE_TABLES: &str = "sort=bool\nsort=bitvec 8\nsort=option 1\nvar=x 2\nfun=f 1 0\n";
 
 /// The reply whose length is nearest to a size.
 pub fn nearest(replies: &[Reply], size: usize) -> Result<&Reply, Fault> {

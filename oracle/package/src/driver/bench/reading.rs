@@ -7,14 +7,14 @@ use crate::symcc::decoder::sexpr::parse_sexpr;
 use std::hint::black_box;
 
 /// An input, the byte 0 that the plain C reader stops at, and what a reading takes: nodes, text bytes, open brackets.
-struct Input {
+pub struct Input {
     ended: Vec<u8>,
-    needs: [usize; 3],
+    pub needs: [usize; 3],
 }
 
 /// What is lent, large enough for each input of a row.
 #[derive(Default)]
-struct Lent {
+pub struct Lent {
     nodes: Vec<u64>,
     text: Vec<u8>,
     stack: Vec<u64>,
@@ -26,12 +26,12 @@ pub fn taken(bytes: &[u8]) -> bool {
 }
 
 impl Input {
-    fn bytes(&self) -> &[u8] {
+    pub fn bytes(&self) -> &[u8] {
         &self.ended[..self.ended.len() - 1]
     }
 
     /// Learns the needs as a caller does: it lends what a refusal asks for, and calls again.
-    fn new(bytes: &[u8], lent: &mut Lent) -> Result<Input, Fault> {
+    pub fn new(bytes: &[u8], lent: &mut Lent) -> Result<Input, Fault> {
         let mut input = Input { ended: bytes.to_vec(), needs: [0; 3] };
         input.ended.push(0);
         loop {
@@ -51,7 +51,7 @@ impl Input {
 }
 
 impl Lent {
-    fn ours(&mut self, input: &Input) -> u64 {
+    pub fn ours(&mut self, input: &Input) -> u64 {
         ours::parse_sexpr(black_box(input.bytes()), &mut self.nodes, &mut self.text, &mut self.stack, &mut self.told)
     }
 
@@ -63,15 +63,20 @@ impl Lent {
     }
 
     /// Sets to zero what the reading of an input will use.
-    fn clear(&mut self, [nodes, text, depth]: [usize; 3]) {
+    pub fn clear(&mut self, [nodes, text, depth]: [usize; 3]) {
         self.nodes[..4 * nodes].fill(0);
         self.text[..text].fill(0);
         self.stack[..depth].fill(0);
         black_box(self);
     }
 
+    /// The arena that the last reading left, of that many nodes and bytes.
+    pub fn arena(&self, [nodes, text, _]: [usize; 3]) -> (&[u64], &[u8]) {
+        (&self.nodes[..4 * nodes], &self.text[..text])
+    }
+
     /// The words, the text and the numbers that the last reading left.
-    fn left(&self, [nodes, text, _]: [usize; 3]) -> (Vec<u64>, Vec<u8>, [u64; 3]) {
+    pub fn left(&self, [nodes, text, _]: [usize; 3]) -> (Vec<u64>, Vec<u8>, [u64; 3]) {
         (self.nodes[..4 * nodes].to_vec(), self.text[..text].to_vec(), self.told)
     }
 }

@@ -22,17 +22,19 @@ fn used() -> Duration {
     Duration::new(time.seconds as u64, time.nanoseconds as u32)
 }
 
-/// How many rounds there are, and how long a call's part of a round lasts at least.
+/// How many rounds there are, how long a call's part of a round lasts at least, and how many arms or members a made model has at
+/// most.
 pub struct Plan {
     pub rounds: usize,
     pub sample: Duration,
+    pub most: usize,
 }
 
 impl Plan {
     pub fn new(quick: bool) -> Plan {
         match quick {
-            true => Plan { rounds: 3, sample: Duration::from_millis(4) },
-            false => Plan { rounds: 9, sample: Duration::from_millis(30) },
+            true => Plan { rounds: 3, sample: Duration::from_millis(4), most: 10_000 },
+            false => Plan { rounds: 9, sample: Duration::from_millis(30), most: 100_000 },
         }
     }
 
@@ -52,10 +54,13 @@ impl Plan {
     fn turns(&self, call: &mut dyn FnMut()) -> u32 {
         call();
         let mut turns = 1;
-        while timed(turns, call) < self.sample / 4 {
+        loop {
+            let taken = timed(turns, call);
+            if self.sample / 4 <= taken {
+                return turns * self.sample.div_duration_f64(taken).ceil() as u32;
+            }
             turns *= 2;
         }
-        turns * 4
     }
 }
 
