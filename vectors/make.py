@@ -17,8 +17,8 @@ from cases import ends, known, leaves, levels, limits, lines, listed, listings, 
 from lists import DIFFER, OURS, asked, files, told  # noqa: E402
 
 SEED = 20261115
-# The longest real reply that the listings hold; of those printed with other options, which have a `+` in their names, the longest.
-LONGEST_REPLY, LONGEST_OTHER = 70_000, 4_000
+# What `modellist` reads of a reply: one byte more than it may have.
+MOST_READ = 65_537
 # Those that are too large for the rooms of `modellist`.
 LARGER = ("fun-rec-200",)
 
@@ -85,8 +85,8 @@ def listing_ranges(rng):
     if parted(edges)[1]:
         sys.exit("an edge of the listings is not alike")
     alike, differ = ([f"M {case}" for case in listings.sampled(some)] for some in parted(listings.drawn(rng)))
-    replies = [listed.case("L" if path.parent.name in LARGER else "M", (path.parent / "tables.txt").read_bytes(), path.read_bytes())
-               for path in real("model") if path.stat().st_size <= (LONGEST_OTHER if "+" in path.name else LONGEST_REPLY)]
+    replies = [listed.case("L" if path.parent.name in LARGER else "M", (path.parent / "tables.txt").read_bytes(), path.read_bytes()[:MOST_READ])
+               for path in real("model")]
     return [
         ("document 01's sample and the edges of its rules, where one might doubt that the crate's answer is document 01's",
          [f"M {case}" for case in edges]),
@@ -100,7 +100,7 @@ def listing_ranges(rng):
         ("level 1,024 through every form, and levels 1,022 and 1,023 through some of them, which are read to another number",
          in_rooms("L", levels.refused())),
         ("values and sorts nested to level 1,023 through every form that are listed, and more arms than levels", in_rooms("L", levels.listed())),
-        ("the real replies of a model, without the longest and without long ones printed with other options", replies),
+        ("the real replies of a model, of the longest as much as the program reads", replies),
         ("refused tables, replies that the reader refuses, empty inputs", [listed.case(*parts) for parts in limits.before_the_walk()]),
         ("document 01's rooms, just full and short by one", [listed.case(*parts) for parts in limits.rooms()]),
         ("the longest reply, with as much text as there is room for, and one that is longer by a byte",
