@@ -19,6 +19,7 @@ use Rattle.order.proofs.Everies.{every-map, every-append, every-head, ascends-r
 use Rattle.order.proofs.Arranges.{first-before}
 use Rattle.order.proofs.Merges.{place-new, place-later, place-earlier}
 use Rattle.runs.specs.Piece.{keyAt}
+use Rattle.runs.specs.Pair.{reach}
 use Rattle.runs.specs.Index.{Found, Inserted, Settled}
 
 -- ---- in a list that ascends, what one element says of those before it and of those behind it
@@ -64,16 +65,16 @@ finding-start s index n p h = record {
   high = λ r. subst (Every (λ q. before (keyAt s q) (keyAt s p) ≡ false)) (sym (drop-of-length-le (take n index) {i = n} (omega (arith, length-take-le n index h)))) none;
 }
 
-module _ (s index : List ℕ) (n p lo hi : ℕ) (h : Finding s index n p lo hi) (l : lo < hi) (t : Bool)
-    (t-is : t ≡ before (keyAt s (getD index (lo + (hi - lo) / 2) 0)) (keyAt s p)) where
+module _ (s index : List ℕ) (n p lo hi : ℕ) (h : Finding s index n p lo hi) (l : lo < hi) (q : ℕ) (q-is : q ≡ getD index (lo + (hi - lo) / 2) 0)
+    (t : Bool) (t-is : t ≡ before (keyAt s q) (keyAt s p)) where
   inside : lo + (hi - lo) / 2 < hi
   inside = omega arith
 
   long : length (take n index) ≡ n
   long = length-take-le n index (h .room)
 
-  same : getD (take n index) (lo + (hi - lo) / 2) 0 ≡ getD index (lo + (hi - lo) / 2) 0
-  same = let m = h .most in getD-take n index (lo + (hi - lo) / 2) 0 (omega arith)
+  same : getD (take n index) (lo + (hi - lo) / 2) 0 ≡ q
+  same = let m = h .most in getD-take n index (lo + (hi - lo) / 2) 0 (omega arith) ∙ sym q-is
 
   pub finding-up : t ≡ true → Finding s index n p (lo + (hi - lo) / 2 + 1) hi
   finding-up e = let m = h .most in record {
@@ -108,33 +109,49 @@ pub record Shifting (entry : List ℕ) (at n p : ℕ) (index : List ℕ) (i carr
   pub within : i ≤ n + 1
   pub room : n < length entry
   pub long : length index ≡ length entry
+  pub small : carried < reach
   pub behind : drop i index ≡ drop i entry
   pub same : take i index ++ (carried ∷ drop i entry) ≡ take at entry ++ (p ∷ drop at entry)
 
-pub shifting-start : (entry : List ℕ) (at n p : ℕ) → (at ≤ n) × (n < length entry) → Shifting entry at n p entry at p
-shifting-start entry at n p h = record { from = omega arith; start = h .0; within = omega (arith, h .0); room = h .1; long = refl; behind = refl; same = refl }
+pub shifting-start : (entry : List ℕ) (at n p : ℕ) → (at ≤ n) × (n < length entry) × (p < reach) → Shifting entry at n p entry at p
+shifting-start entry at n p h = record { from = omega arith; start = h .0; within = omega (arith, h .0); room = h .1; long = refl; small = h .2; behind = refl; same = refl }
 
-pub shifting-next : (entry : List ℕ) (at n p : ℕ) (index : List ℕ) (i carried : ℕ) → Shifting entry at n p index i carried → i ≤ n → Shifting entry at n p (set index i carried) (i + 1) (getD index i 0)
-shifting-next entry at n p index i carried h l =
-    let f = h .from in
-    let r = h .room in
-    let z = h .long in
-    let e : getD index i 0 ≡ getD entry i 0 =
-    ap (λ (k : ℕ). getD index k 0) (sym (add-zero i)) ∙ sym (getD-drop i index 0 0) ∙ ap (λ (x : List ℕ). getD x 0 0) (h .behind) ∙ getD-drop i entry 0 0 ∙ ap (λ (k : ℕ). getD entry k 0) (add-zero i) in
-    record {
-      from = omega arith;
-      start = h .start;
-      within = omega arith;
-      room = r;
-      long = length-set index i carried ∙ z;
-      behind = drop-set-lt (i + 1) index i carried (omega arith) ∙ sym (drop-drop 1 i index) ∙ ap (drop 1) (h .behind) ∙ drop-drop 1 i entry;
-      same =
-          ap (λ (x : List ℕ). x ++ (getD index i 0 ∷ drop (i + 1) entry)) (ap (λ (k : ℕ). take k (set index i carried)) (add-one i) ∙ take-suc-set index i carried (omega arith))
-          ∙ append-assoc (take i index) (carried ∷ []) (getD index i 0 ∷ drop (i + 1) entry)
-          ∙ ap (λ (v : ℕ). take i index ++ (carried ∷ v ∷ drop (i + 1) entry)) e
-          ∙ ap (λ (x : List ℕ). take i index ++ (carried ∷ x)) (sym (at-place entry i (omega arith)))
-          ∙ h .same;
-    }
+module _ (entry : List ℕ) (at n p : ℕ) (index index′ : List ℕ) (i carried next : ℕ) (h : Shifting entry at n p index i carried) (l : i ≤ n) (next-is : next ≡ getD index i 0)
+    (less : next < reach) (index-is : index′ ≡ set index i carried) where
+  behind-next : drop (i + 1) index′ ≡ drop (i + 1) entry
+  behind-next = ap (drop (i + 1)) index-is ∙ drop-set-lt (i + 1) index i carried (omega arith) ∙ sym (drop-drop 1 i index) ∙ ap (drop 1) (h .behind) ∙ drop-drop 1 i entry
+
+  front-next : take (i + 1) index′ ≡ take i index ++ (carried ∷ [])
+  front-next =
+      let r = h .room in
+      let z = h .long in
+      ap (take (i + 1)) index-is ∙ ap (λ (k : ℕ). take k (set index i carried)) (add-one i) ∙ take-suc-set index i carried (omega arith)
+
+  carried-next : next ≡ getD entry i 0
+  carried-next =
+      next-is ∙ ap (λ (k : ℕ). getD index k 0) (sym (add-zero i)) ∙ sym (getD-drop i index 0 0) ∙ ap (λ (x : List ℕ). getD x 0 0) (h .behind) ∙ getD-drop i entry 0 0
+      ∙ ap (λ (k : ℕ). getD entry k 0) (add-zero i)
+
+  pub shifting-next : Shifting entry at n p index′ (i + 1) next
+  shifting-next =
+      let f = h .from in
+      let r = h .room in
+      let z = h .long in
+      record {
+        from = omega arith;
+        start = h .start;
+        within = omega arith;
+        room = r;
+        long = ap length index-is ∙ length-set index i carried ∙ z;
+        small = less;
+        behind = behind-next;
+        same =
+            ap (λ (x : List ℕ). x ++ (next ∷ drop (i + 1) entry)) front-next
+            ∙ append-assoc (take i index) (carried ∷ []) (next ∷ drop (i + 1) entry)
+            ∙ ap (λ (v : ℕ). take i index ++ (carried ∷ v ∷ drop (i + 1) entry)) carried-next
+            ∙ ap (λ (x : List ℕ). take i index ++ (carried ∷ x)) (sym (at-place entry i (omega arith)))
+            ∙ h .same;
+      }
 
 pub shifting-end : (entry : List ℕ) (at n p : ℕ) (index : List ℕ) (i carried : ℕ) → Shifting entry at n p index i carried → n < i → Inserted entry index at n p
 shifting-end entry at n p index i carried h l =
@@ -204,8 +221,11 @@ module _ (last : Bool) (s entry : List ℕ) (n p at : ℕ) (room : n < length en
       equal : before (keyAt s p) (keyAt s (getD entry at 0)) ≡ false → keyAt s (getD (take n entry) at 0) ≡ keyAt s p
       equal e = before-total (keyAt s (getD (take n entry) at 0)) (keyAt s p) not-before (ap (λ (q : ℕ). before (keyAt s p) (keyAt s q)) y-is ∙ e)
 
-  pub settled-before : (exit : List ℕ) (t : Bool) → at < n → t ≡ before (keyAt s p) (keyAt s (getD entry at 0)) → t ≡ true → Inserted entry exit at n p → Settled last s entry exit n p (n + 1)
-  settled-before exit t less e g i = record { within = omega arith; holds = λ rise. new rise exit (under rise less (sym e ∙ g)) i }
+  read-as : (q : ℕ) (t b : Bool) → q ≡ getD entry at 0 → t ≡ before (keyAt s p) (keyAt s q) → t ≡ b → before (keyAt s p) (keyAt s (getD entry at 0)) ≡ b
+  read-as q t b q-is e g = ap (λ (k : ℕ). before (keyAt s p) (keyAt s k)) (sym q-is) ∙ sym e ∙ g
+
+  pub settled-before : (exit : List ℕ) (q : ℕ) (t : Bool) → at < n → q ≡ getD entry at 0 → t ≡ before (keyAt s p) (keyAt s q) → t ≡ true → Inserted entry exit at n p → Settled last s entry exit n p (n + 1)
+  settled-before exit q t less q-is e g i = record { within = omega arith; holds = λ rise. new rise exit (under rise less (read-as q t true q-is e g)) i }
 
   pub settled-last : (exit : List ℕ) → n ≤ at → Inserted entry exit at n p → Settled last s entry exit n p (n + 1)
   settled-last exit more i = record {
@@ -213,20 +233,20 @@ module _ (last : Bool) (s entry : List ℕ) (n p at : ℕ) (room : n < length en
     holds = λ rise. new rise exit (subst (Every (λ q. before (keyAt s p) (keyAt s q) ≡ true)) (sym (drop-of-length-le (take n entry) {i = at} (omega (arith, held)))) none) i;
   }
 
-  pub settled-later : (t : Bool) → at < n → t ≡ before (keyAt s p) (keyAt s (getD entry at 0)) → t ≡ false → last ≡ true → Settled last s entry (set entry at p) n p n
-  settled-later t less e g j = record {
+  pub settled-later : (exit : List ℕ) (q : ℕ) (t : Bool) → at < n → q ≡ getD entry at 0 → t ≡ before (keyAt s p) (keyAt s q) → t ≡ false → last ≡ true → exit ≡ set entry at p → Settled last s entry exit n p n
+  settled-later exit q t less q-is e g j exit-is = record {
     within = omega arith;
     holds = λ rise.
-        take-set-lt n entry at p less ∙ set-split (take n entry) at p (omega (arith, held))
-        ∙ sym (place-later (keyAt s) last (take at (take n entry)) (drop (suc at) (take n entry)) p (getD (take n entry) at 0) (low rise) (rise-met rise less) (equal rise less (sym e ∙ g)) j)
+        ap (take n) exit-is ∙ take-set-lt n entry at p less ∙ set-split (take n entry) at p (omega (arith, held))
+        ∙ sym (place-later (keyAt s) last (take at (take n entry)) (drop (suc at) (take n entry)) p (getD (take n entry) at 0) (low rise) (rise-met rise less) (equal rise less (read-as q t false q-is e g)) j)
         ∙ ap (λ (x : List ℕ). inserts (keyAt s) last x (p ∷ [])) (whole-met rise less);
   }
 
-  pub settled-earlier : (t : Bool) → at < n → t ≡ before (keyAt s p) (keyAt s (getD entry at 0)) → t ≡ false → last ≡ false → Settled last s entry entry n p n
-  settled-earlier t less e g j = record {
+  pub settled-earlier : (q : ℕ) (t : Bool) → at < n → q ≡ getD entry at 0 → t ≡ before (keyAt s p) (keyAt s q) → t ≡ false → last ≡ false → Settled last s entry entry n p n
+  settled-earlier q t less q-is e g j = record {
     within = omega arith;
     holds = λ rise.
         sym (whole-met rise less)
-        ∙ sym (place-earlier (keyAt s) last (take at (take n entry)) (drop (suc at) (take n entry)) p (getD (take n entry) at 0) (low rise) (rise-met rise less) (equal rise less (sym e ∙ g)) j)
+        ∙ sym (place-earlier (keyAt s) last (take at (take n entry)) (drop (suc at) (take n entry)) p (getD (take n entry) at 0) (low rise) (rise-met rise less) (equal rise less (read-as q t false q-is e g)) j)
         ∙ ap (λ (x : List ℕ). inserts (keyAt s) last x (p ∷ [])) (whole-met rise less);
   }

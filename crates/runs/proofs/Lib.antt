@@ -3,6 +3,7 @@ pub mod Pieces
 pub mod Runs
 pub mod Lowers
 pub mod Lays
+pub mod Pairs
 pub mod Finds
 pub mod Listings
 pub mod Knits

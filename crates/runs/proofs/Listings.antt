@@ -6,8 +6,8 @@ use mathlib.Core.List.{List, [], _∷_, _++_, map, append-assoc, append-nil}
 use Prim.Native.Nat.{ℕ, suc, _+_, _-_, _≤_, _<_}
 use native.Mathlib.Omega.{arith}
 use native.Mathlib.Numerals.{add-one}
-use lib.ListN.{length, getD, take, drop}
-use lib.Seq.{take-suc, take-at, length-take-le}
+use lib.ListN.{length, getD, take, drop, length-drop, drop-of-length-le}
+use lib.Seq.{take-suc, take-at, drop-at, take-add, take-take, take-append-le, drop-append-le, length-take-le}
 use Rattle.lent.specs.Put.{Puts, Fronts}
 use Rattle.lent.specs.Left.{onto}
 use Rattle.lent.proofs.Pieces.{piece-front}
@@ -21,7 +21,9 @@ use Rattle.runs.specs.Run.{key, run, plain}
 use Rattle.runs.specs.Piece.{piece, pieces, cell, keyAt}
 use Rattle.runs.specs.Place.{Plain, Ended}
 use Rattle.runs.specs.Merge.{Tried}
+use Rattle.runs.specs.Pair.{pairs, places, base, reach}
 use Rattle.runs.specs.Index.{starts, Settled, Listed, Wrote}
+use Rattle.runs.proofs.Pairs.{pairs-long, pairs-front}
 use Rattle.runs.proofs.Words.{cell-record, key-cell}
 use Rattle.runs.proofs.Pieces.{piece-within, ended-more}
 use Rattle.runs.proofs.Runs.{run-nil, run-cons, run-both, run-long, run-none, drop-run, piece-at, end-at}
@@ -89,9 +91,11 @@ pub record Passed (last : Bool) (s index : List ℕ) (n p : ℕ) (rs : List (Lis
 
 pub record Listing (last : Bool) (s index₀ index : List ℕ) (n p : ℕ) : Type 0 where
   pub long : length index ≡ length index₀
+  pub enough : base ≤ length index
+  pub small : length s ≤ reach
   pub within : p ≤ length s
-  pub room : n ≤ length index
-  pub passed : (rs : List (List ℕ)) → Plain rs → s ≡ run rs → Passed last s index n p rs
+  pub room : n ≤ places
+  pub passed : (rs : List (List ℕ)) → Plain rs → s ≡ run rs → Passed last s (pairs index) n p rs
 
 arranged-nil : (last : Bool) (s : List ℕ) → arranged (keyAt s) last [] ≡ []
 unfolding arranged
@@ -101,20 +105,26 @@ arranged-one : (last : Bool) (s : List ℕ) (p : ℕ) → arranged (keyAt s) las
 unfolding arranged
 arranged-one last s p = insert-none (keyAt s) last p
 
-pub listing-start : (last : Bool) (s index : List ℕ) → Listing last s index index 0 0
-listing-start last s index = record {
+pub listing-start : (last : Bool) (s index : List ℕ) → (length s ≤ reach) × (base ≤ length index) → Listing last s index index 0 0
+listing-start last s index h = record {
   long = refl;
+  enough = h .1;
+  small = h .0;
   within = omega arith;
   room = omega arith;
   passed = λ rs ok is. record { us = []; vs = rs; parts = refl; place = sym (ap length run-nil); taken = sym (ap (arranged (keyAt s) last) (starts-nil 0) ∙ arranged-nil last s) };
 }
 
+-- there is room for one place more, and it fits its pair
+pub listing-fits : (last : Bool) (s index₀ index : List ℕ) (n p : ℕ) → Listing last s index₀ index n p → p < length s → n < places → (n < length (pairs index)) × (p < reach)
+listing-fits last s index₀ index n p h less more = let a = h .enough in let b = h .small in (omega (arith, pairs-long index), omega arith)
+
 module _ (last : Bool) (s index₀ index index′ : List ℕ) (n p n′ e : ℕ) (h : Listing last s index₀ index n p) (less : p < length s)
-    (t : Settled last s index index′ n p n′) (kept : length index′ ≡ length index) (room : n < length index) (d : Ended s p e) where
+    (t : Settled last s (pairs index) (pairs index′) n p n′) (kept : length index′ ≡ length index) (room : n < places) (d : Ended s p e) where
   pub listing-falls : length s - e < length s - p
   listing-falls = let z = ended-more s p e d less in omega arith
 
-  next : (rs : List (List ℕ)) → Plain rs → s ≡ run rs → (us vs : List (List ℕ)) → rs ≡ us ++ vs → p ≡ length (run us) → take n index ≡ arranged (keyAt s) last (starts 0 us) → Passed last s index′ n′ e rs
+  next : (rs : List (List ℕ)) → Plain rs → s ≡ run rs → (us vs : List (List ℕ)) → rs ≡ us ++ vs → p ≡ length (run us) → take n (pairs index) ≡ arranged (keyAt s) last (starts 0 us) → Passed last s (pairs index′) n′ e rs
   next rs ok is us [] parts place taken = absurd (omega (arith, ap length (is ∙ ap run (parts ∙ append-nil us))))
   next rs ok is us (r ∷ vs) parts place taken =
       let hr : plain r ≡ true = every-head (λ r. plain r ≡ true) r vs (every-right (λ r. plain r ≡ true) us (r ∷ vs) (subst Plain parts ok)) in
@@ -137,15 +147,17 @@ module _ (last : Bool) (s index₀ index index′ : List ℕ) (n p n′ e : ℕ)
   pub listing-next : Listing last s index₀ index′ n′ e
   listing-next = record {
     long = kept ∙ h .long;
+    enough = let a = h .enough in omega (arith, kept);
+    small = h .small;
     within = d .within;
-    room = let a = t .within in omega (arith, kept);
+    room = let a = t .within in omega arith;
     passed = λ rs ok is. let q = h .passed rs ok is in next rs ok is (q .us) (q .vs) (q .parts) (q .place) (q .taken);
   }
 
 pub listing-full : (last : Bool) (s index : List ℕ) → Listed last s index 0
 listing-full last s index = record { within = omega arith; holds = λ z. absurd (z refl) }
 
-pub listing-end : (last : Bool) (s index₀ index : List ℕ) (n p : ℕ) → Listing last s index₀ index n p → length s ≤ p → Listed last s index n
+pub listing-end : (last : Bool) (s index₀ index : List ℕ) (n p : ℕ) → Listing last s index₀ index n p → length s ≤ p → Listed last s (pairs index) n
 listing-end last s index₀ index n p h l = record {
   within = h .room;
   holds = λ z rs ok is.
@@ -157,12 +169,14 @@ listing-end last s index₀ index n p h l = record {
 
 -- ---- the loop of write
 
-pub record Writing (s index : List ℕ) (n : ℕ) (out₀ out : List ℕ) (w i : ℕ) : Type 0 where
+pub record Writing (s : List ℕ) (n : ℕ) (out₀ out : List ℕ) (w i : ℕ) : Type 0 where
   pub long : length out ≡ length out₀
   pub within : i ≤ n
-  pub room : n ≤ length index
+  pub few : n ≤ places
+  pub least : base ≤ w
   pub fits : w ≤ length out
-  pub holds : take w out ≡ pieces s (take i index)
+  pub kept : take base out ≡ take base out₀
+  pub holds : drop base (take w out) ≡ pieces s (take i (pairs out₀))
 
 pieces-nil : (s : List ℕ) → pieces s [] ≡ []
 unfolding pieces
@@ -173,55 +187,95 @@ unfolding pieces
 pieces-snoc s [] p = append-nil (piece (drop p s))
 pieces-snoc s (q ∷ ps) p = ap (λ (x : List ℕ). piece (drop q s) ++ x) (pieces-snoc s ps p) ∙ sym (append-assoc (piece (drop q s)) (pieces s ps) (piece (drop p s)))
 
-pub writing-start : (s index : List ℕ) (n : ℕ) (out : List ℕ) → n ≤ length index → Writing s index n out out 0 0
-writing-start s index n out h = record { long = refl; within = omega arith; room = h; fits = omega arith; holds = sym (pieces-nil s) }
+pub writing-start : (s : List ℕ) (n : ℕ) (out : List ℕ) → (n ≤ places) × (base ≤ length out) → Writing s n out out base 0
+writing-start s n out h = record {
+  long = refl;
+  within = omega arith;
+  few = h .0;
+  least = omega arith;
+  fits = h .1;
+  kept = refl;
+  holds = drop-of-length-le (take base out) {i = base} (omega (arith, length-take-le base out (h .1))) ∙ sym (pieces-nil s);
+}
 
-module _ (s index : List ℕ) (n : ℕ) (out₀ out out′ : List ℕ) (w i next : ℕ) (h : Writing s index n out₀ out w i) (less : i < n)
-    (in-s : getD index i 0 ≤ length s) (room : length s - getD index i 0 ≤ length out - w) (kept : length out′ ≡ length out) (p : Puts out out′ w (piece (drop (getD index i 0) s)) next) where
-  pub writing-next : Writing s index n out₀ out′ next (i + 1)
+-- the places are read where they stand, before what is written
+pub writing-room : (s : List ℕ) (n : ℕ) (out₀ out : List ℕ) (w i : ℕ) → Writing s n out₀ out w i → i < n → i < length (pairs out)
+writing-room s n out₀ out w i h less = let a = h .few in let b = h .least in let c = h .fits in omega (arith, pairs-long out)
+
+module _ (s : List ℕ) (n : ℕ) (out₀ out out′ : List ℕ) (w i p next : ℕ) (h : Writing s n out₀ out w i) (less : i < n) (p-is : p ≡ getD (pairs out) i 0)
+    (in-s : p ≤ length s) (room : length s - p ≤ length out - w) (kept : length out′ ≡ length out) (put : Puts out out′ w (piece (drop p s)) next) where
+  long-w : length (take w out) ≡ w
+  long-w = length-take-le w out (h .fits)
+
+  fit : next ≤ length out
+  fit = let f = h .fits in omega (arith, put .after, piece-within s p)
+
+  front : take next out′ ≡ take w out ++ piece (drop p s)
+  front = piece-front put fit
+
+  place-is : p ≡ getD (pairs out₀) i 0
+  place-is = let a = h .few in p-is ∙ pairs-front out out₀ base i (omega arith) (h .kept)
+
+  kept-next : take base out′ ≡ take base out₀
+  kept-next =
+      let b = h .least in
+      sym (take-take base next out′ (omega (arith, put .after))) ∙ ap (take base) front ∙ take-append-le base (take w out) (piece (drop p s)) (omega (arith, long-w))
+      ∙ take-take base w out b ∙ h .kept
+
+  pub writing-next : Writing s n out₀ out′ next (i + 1)
   writing-next =
+      let a = h .few in
+      let b = h .least in
       let f = h .fits in
-      let r = h .room in
-      let fit : next ≤ length out = omega (arith, p .after, piece-within s (getD index i 0)) in
       record {
         long = kept ∙ h .long;
         within = omega arith;
-        room = r;
-        fits = omega arith;
+        few = a;
+        least = omega (arith, put .after);
+        fits = omega (arith, fit);
+        kept = kept-next;
         holds =
-            piece-front p fit ∙ ap (λ (x : List ℕ). x ++ piece (drop (getD index i 0) s)) (h .holds)
-            ∙ sym (pieces-snoc s (take i index) (getD index i 0)) ∙ ap (pieces s) (sym (ap (λ (k : ℕ). take k index) (add-one i) ∙ take-suc index i 0 (omega arith)));
+            ap (drop base) front ∙ drop-append-le base (take w out) (piece (drop p s)) (omega (arith, long-w)) ∙ ap (λ (x : List ℕ). x ++ piece (drop p s)) (h .holds)
+            ∙ sym (pieces-snoc s (take i (pairs out₀)) p) ∙ ap (λ (q : ℕ). pieces s (take i (pairs out₀) ++ (q ∷ []))) place-is
+            ∙ ap (pieces s) (sym (ap (λ (k : ℕ). take k (pairs out₀)) (add-one i) ∙ take-suc (pairs out₀) i 0 (omega (arith, pairs-long out₀, h .long))));
       }
 
-pub writing-full : (s index : List ℕ) (n : ℕ) (out : List ℕ) → Wrote s index n out 0
-writing-full s index n out = record { within = omega arith; holds = λ z. absurd (z refl) }
+pub writing-full : (s : List ℕ) (n : ℕ) (out₀ out : List ℕ) (w i : ℕ) → Writing s n out₀ out w i → Wrote s out₀ n out 0
+writing-full s n out₀ out w i h = let b = h .least in let f = h .fits in record { within = omega arith; holds = λ z. absurd (z refl) }
 
-pub writing-end : (s index : List ℕ) (n : ℕ) (out₀ out : List ℕ) (w i : ℕ) → Writing s index n out₀ out w i → n ≤ i → Wrote s index n out w
-writing-end s index n out₀ out w i h l =
+pub writing-end : (s : List ℕ) (n : ℕ) (out₀ out : List ℕ) (w i : ℕ) → Writing s n out₀ out w i → n ≤ i → Wrote s out₀ n out (w - base)
+writing-end s n out₀ out w i h l =
     let a = h .within in
+    let b = h .least in
+    let f = h .fits in
     let e : i ≡ n = omega arith in
-    record { within = h .fits; holds = λ z. h .holds ∙ ap (λ (k : ℕ). pieces s (take k index)) e }
+    let k : w ≡ base + (w - base) = omega arith in
+    let behind : drop base (take w out) ≡ take (w - base) (drop base out) =
+    ap (λ (j : ℕ). drop base (take j out)) k ∙ ap (drop base) (take-add base (w - base) out) ∙ drop-at (take base out) (take (w - base) (drop base out)) base (length-take-le base out (omega arith)) in
+    record { within = omega arith; holds = λ z. sym behind ∙ h .holds ∙ ap (λ (j : ℕ). pieces s (take j (pairs out₀))) e }
 
 -- ---- the returns of try_short
 
 pub tried-not : (last : Bool) (s : List ℕ) → Tried last s s 0
 tried-not last s = record { within = omega arith; not = λ z. refl; made = λ z. absurd (z refl) }
 
-pub tried : (last : Bool) (s index scratch exit : List ℕ) (n w r : ℕ) → Listed last s index n → (n ≡ 0 → ⊥) → Wrote s index n scratch w → w ≤ length s
-    → Fronts (take (w - 0) (drop 0 scratch)) s exit r → Tried last s exit r
+pub tried : (last : Bool) (s index scratch exit : List ℕ) (n w r : ℕ) → Listed last s (pairs index) n → (n ≡ 0 → ⊥) → Wrote s index n scratch w → w ≤ length s
+    → Fronts (take (base + w - base) (drop base scratch)) s exit r → Tried last s exit r
 unfolding onto
 tried last s index scratch exit n w r l some o fit f =
-    let text : take (w - 0) (drop 0 scratch) ≡ take w scratch = ap (λ (k : ℕ). take k scratch) (let e : w - 0 ≡ w = omega arith in e) in
-    let long : r ≡ w = f .long ∙ ap length text ∙ length-take-le w scratch (o .within) in
-    let whole : exit ≡ take w scratch ++ drop w s = f .holds ∙ ap (λ (x : List ℕ). x ++ drop (length x) s) text ∙ ap (λ (k : ℕ). take w scratch ++ drop k s) (length-take-le w scratch (o .within)) in
+    let written : List ℕ = take w (drop base scratch) in
+    let text : take (base + w - base) (drop base scratch) ≡ written = ap (λ (k : ℕ). take k (drop base scratch)) (let e : base + w - base ≡ w = omega arith in e) in
+    let many : length written ≡ w = length-take-le w (drop base scratch) (omega (arith, o .within, length-drop base scratch)) in
+    let long : r ≡ w = f .long ∙ ap length text ∙ many in
+    let whole : exit ≡ written ++ drop w s = f .holds ∙ ap (λ (x : List ℕ). x ++ drop (length x) s) text ∙ ap (λ (k : ℕ). written ++ drop k s) many in
     record {
       within = omega arith;
-      not = λ z. whole ∙ ap (λ (k : ℕ). take k scratch ++ drop k s) (sym long ∙ z);
+      not = λ z. whole ∙ ap (λ (k : ℕ). take k (drop base scratch) ++ drop k s) (sym long ∙ z);
       made = λ z rs ok is.
-          let e : take w scratch ≡ run (arranged key last rs) =
+          let e : written ≡ run (arranged key last rs) =
           o .holds (λ y. z (long ∙ y)) ∙ ap (pieces s) (l .holds some rs ok is) ∙ pieces-run last s rs ok is in
           record {
-            long = long ∙ sym (length-take-le w scratch (o .within)) ∙ ap length e;
-            bytes = ap (λ (k : ℕ). take k exit) long ∙ ap (take w) whole ∙ take-at (take w scratch) (drop w s) w (length-take-le w scratch (o .within)) ∙ e;
+            long = long ∙ sym many ∙ ap length e;
+            bytes = ap (λ (k : ℕ). take k exit) long ∙ ap (take w) whole ∙ take-at written (drop w s) w many ∙ e;
           };
     }

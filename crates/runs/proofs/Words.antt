@@ -3,7 +3,7 @@
 use mathlib.Core.Path.{_≡_, refl, ap, sym, _∙_}
 use mathlib.Core.Bool.{Bool, true, false, cond, _&&_, not}
 use mathlib.Core.List.{List, [], _∷_, _++_}
-use Prim.Native.Nat.{ℕ, _+_, _≤_, _<_}
+use Prim.Native.Nat.{ℕ, _+_, _-_, _≤_, _<_}
 use native.Mathlib.Omega.{arith}
 use lib.ListN.{length, getD, drop, drop-of-length-le}
 use lib.Dec.{eqb}
@@ -15,6 +15,7 @@ use Rattle.order.specs.Order.{before}
 use Rattle.order.proofs.Befores.{never, before-none, before-some, before-less, before-more, before-same}
 use Rattle.runs.specs.Run.{end, key, plain}
 use Rattle.runs.specs.Piece.{mark, word, cell, keyAt}
+use Rattle.runs.specs.Place.{Skipped}
 
 -- ---- the byte that is compared
 
@@ -125,6 +126,43 @@ module _ (a b : List ℕ) (p q i j x y : ℕ) (h : Level a b p q i j) (x-is : x 
 
   pub level-room-2 : (y ≡ 0 → ⊥) → j < length b
   level-room-2 n = mark-within b j (λ z. n (y-is ∙ z))
+
+-- ---- the bytes that two keys share
+
+pub record Skipping (a b : List ℕ) (p q i j : ℕ) : Type 0 where
+  pub up : p ≤ i
+  pub even : j ≡ q + (i - p)
+  pub room : p < i → j ≤ length b
+  pub level : Level a b p q i j
+
+pub skipping-start : (a b : List ℕ) (p q : ℕ) → Skipping a b p q p q
+skipping-start a b p q = record { up = omega arith; even = omega arith; room = λ h. absurd (omega (arith, h)); level = level-start a b p q }
+
+module _ (a b : List ℕ) (p q i j : ℕ) (h : Skipping a b p q i j) where
+  pub skipping-next : i < length a → j < length b → getD a i 0 ≡ getD b j 0 → 10 < getD a i 0 → Skipping a b p q (i + 1) (j + 1)
+  skipping-next u v e k =
+      record {
+        up = omega (arith, h .up);
+        even = omega (arith, h .even, h .up);
+        room = λ l. omega arith;
+        level =
+            level-next a b p q i j (getD a i 0) (getD b j 0) (h .level) (mark-other a i u (λ z. omega arith)) (mark-other b j v (λ z. omega (arith, e)))
+            (λ z. omega (arith, e)) (omega (arith, e)) (omega (arith, e));
+      }
+
+  pub skipped : Skipped a b p q i
+  skipped =
+      record {
+        up = h .up;
+        room = λ l. omega (arith, h .room l, h .even);
+        same = ap (λ (k : ℕ). before (keyAt a i) (keyAt b k)) (sym (h .even)) ∙ h .level .same;
+      }
+
+pub skipped-fits : (a b : List ℕ) (p q r : ℕ) → Skipped a b p q r → q < 18446744073709551616 → length b < 18446744073709551616 → q + (r - p) < 18446744073709551616
+skipped-fits a b p q r h k l = by-order p r (λ m. omega (arith, h .room m)) (λ m. omega (arith, m))
+
+pub level-skipped : (a b : List ℕ) (p q r j : ℕ) → Skipped a b p q r → j ≡ q + (r - p) → Level a b p q r j
+level-skipped a b p q r j h e = record { same = ap (λ (k : ℕ). before (keyAt a r) (keyAt b k)) e ∙ h .same }
 
 -- ---- records
 

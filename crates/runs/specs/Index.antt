@@ -10,6 +10,7 @@ use Rattle.order.specs.Every.{Every, Ascends}
 use Rattle.runs.specs.Run.{run}
 use Rattle.runs.specs.Piece.{keyAt, pieces}
 use Rattle.runs.specs.Place.{Plain}
+use Rattle.runs.specs.Pair.{pairs, places, base}
 
 -- where the records of a run begin, the first at a place
 unfoldable pub starts : ℕ → List (List ℕ) → List ℕ
@@ -33,10 +34,10 @@ pub record Settled (last : Bool) (s entry exit : List ℕ) (n p r : ℕ) : Type 
 
 -- all places of a run's records, arranged, or 0 where the index has no room
 pub record Listed (last : Bool) (s exit : List ℕ) (r : ℕ) : Type 0 where
-  pub within : r ≤ length exit
+  pub within : r ≤ places
   pub holds : (r ≡ 0 → ⊥) → (rs : List (List ℕ)) → Plain rs → s ≡ run rs → take r exit ≡ arranged (keyAt s) last (starts 0 rs)
 
--- the pieces at the first n places of an index at the front, or 0 where there is no room
-pub record Wrote (s index : List ℕ) (n : ℕ) (exit : List ℕ) (r : ℕ) : Type 0 where
-  pub within : r ≤ length exit
-  pub holds : (r ≡ 0 → ⊥) → take r exit ≡ pieces s (take n index)
+-- the pieces at the first n places of a buffer, written behind all places, or 0 where there is no room
+pub record Wrote (s entry : List ℕ) (n : ℕ) (exit : List ℕ) (r : ℕ) : Type 0 where
+  pub within : base + r ≤ length exit
+  pub holds : (r ≡ 0 → ⊥) → take r (drop base exit) ≡ pieces s (take n (pairs entry))

@@ -45,3 +45,9 @@ pub record Lower (s : List ℕ) (x from r : ℕ) : Type 0 where
   pub within : r ≤ length s
   pub least : from ≤ r
   pub parted : (bs : List (List ℕ)) → Plain bs → Ascends key bs → drop from s ≡ run bs → Parted bs (keyAt s x) from r
+
+-- a place, as far from p as another one is from q, up to which two keys have the same bytes
+pub record Skipped (a b : List ℕ) (p q r : ℕ) : Type 0 where
+  pub up : p ≤ r
+  pub room : p < r → q + (r - p) ≤ length b
+  pub same : before (keyAt a r) (keyAt b (q + (r - p))) ≡ before (keyAt a p) (keyAt b q)

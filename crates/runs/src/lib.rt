@@ -4,6 +4,7 @@ mod index;
 mod keys;
 mod laying;
 mod merges;
+mod places;
 mod sorts;
 
 pub use ends::END;

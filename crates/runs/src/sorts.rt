@@ -5,16 +5,15 @@ use crate::ends::half;
 use crate::index::try_short;
 use crate::merges::merge;
 
-// All records in order at the front, one of each key; answers how many bytes. The index of places stands here, in the frame of a function that
-// calls itself and so is no part of its caller's: a set's writer calls itself for each level of sets, and would hold an index a level.
+// All records in order at the front, one of each key; answers how many bytes. What a short run needs beside it stands in the scratch: this function
+// calls itself, and a buffer of its own would be held once a level.
 fn sort(s: &mut [u8], scratch: &mut [u8], last: bool) -> usize
     ensures { λ r. ⌜ Sorted last (now (s .entry)) (now (s .exit)) r ⌝ }
 {
     if s.len() == 0 {
         return 0;
     }
-    let mut index: [usize; 256] = [0; 256];
-    let short = try_short(s, scratch, &mut index, last);
+    let short = try_short(s, scratch, last);
     if short != 0 {
         return short;
     }

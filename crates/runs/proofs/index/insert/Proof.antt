@@ -1,56 +1,55 @@
+use mathlib.Core.Path.{_≡_, refl, _∙_}
 use Prim.Native.Nat.{_-_, suc}
+use native.Mathlib.Omega.{arith}
+use lib.ListN.{length}
+use Rattle.runs.specs.Pair.{pairs}
+use Rattle.runs.proofs.Pairs.{pairs-long}
 use Rattle.runs.proofs.Finds.{Shifting, shifting-start, shifting-next, shifting-end}
 use borrow.Author.Needs.{needs}
 use Rattle.runs.proofs.index.insert.Statement.{statement}
 use Rattle.runs.proofs.index.insert.Tie as tie
 use Rattle.runs.proofs.index.insert.Reads as reads
 use Rattle.runs.proofs.index.insert.Lts as lts
+use Rattle.runs.proofs.places.place.Reads as place-reads
+use Rattle.runs.proofs.places.set_place.Reads as set-place-reads
 
 abbrev Inv-loop : tie.InvT-loop
-Inv-loop index₀ at n p i₀ carried₀ index i carried = Shifting index₀ at n p index i carried
+Inv-loop index₀ at n p i₀ carried₀ index i carried = (length index ≡ length index₀) × Shifting (pairs index₀) at n p (pairs index) i carried
 
 abbrev μ-loop : tie.MeasureT-loop
 μ-loop index₀ at n p i₀ carried₀ index i carried = suc n - i
 
--- src/index.rt:42:5
+-- src/index.rt:48:5
 loop-holds : tie.Need-loop-holds Inv-loop μ-loop
-loop-holds c = search (shifting-start)
+loop-holds c = (refl, shifting-start _ _ _ _ (c .before .pre))
 
--- src/index.rt:43:20
-mul-next : tie.Need-mul-next Inv-loop μ-loop
-mul-next c = search needs
+-- src/index.rt:49:13
+place-requires : tie.Need-place-requires Inv-loop μ-loop
+place-requires c κs = search needs
 
--- src/index.rt:43:20
-slice-read-next : tie.Need-slice-read-next Inv-loop μ-loop
-slice-read-next c = search needs
+-- src/index.rt:50:9
+set-place-requires : tie.Need-set-place-requires Inv-loop μ-loop
+set-place-requires c κs = search needs
 
--- src/index.rt:44:9
-mul-index : tie.Need-mul-index Inv-loop μ-loop
-mul-index c = search needs
-
--- src/index.rt:44:9
-slice-write-index : tie.Need-slice-write-index Inv-loop μ-loop
-slice-write-index c = search needs
-
--- src/index.rt:46:9
+-- src/index.rt:52:9
 add-i : tie.Need-add-i Inv-loop μ-loop
-add-i c = search needs
+add-i c = record { fits = omega (arith, pairs-long (c .before .before .before .before .before .before .before .before .before .args .index .now)) }
 
--- src/index.rt:42:5
+-- src/index.rt:48:5
 loop-less : tie.Need-loop-less Inv-loop μ-loop
 loop-less c = search needs
 
--- src/index.rt:42:5
+-- src/index.rt:48:5
 loop-again : tie.Need-loop-again Inv-loop μ-loop
-loop-again c = search (shifting-next)
+loop-again c = (c .before .before .set-place .kept .0 ∙ c .before .before .before .before .before .before .before .loop .inv .0, shifting-next _ _ _ _ _ _ _ _ _ (c .before .before .before .before .before .before .before .loop .inv .1) (c .before .before .before .before .before .before .loop-test .taken) (c .before .before .before .before .place .ensures .same) (c .before .before .before .before .place .ensures .small) (c .before .before .set-place .ensures))
 
--- src/index.rt:36:1
+-- src/index.rt:42:1
 same-length : tie.Need-same-length Inv-loop μ-loop
-same-length c = search needs
+same-length c = c .before .loop .inv .0
 
--- src/index.rt:36:1
+-- src/index.rt:42:1
 returns : tie.Need-returns Inv-loop μ-loop
-returns c = search (shifting-end)
+returns c = shifting-end _ _ _ _ _ _ _ (c .before .loop .inv .1) (c .loop-test .left)
 
 pub insert-spec : {M : Type 1} → statement M
 insert-spec =
@@ -59,10 +58,8 @@ insert-spec =
     Inv-loop
     μ-loop
     loop-holds
-    mul-next
-    slice-read-next
-    mul-index
-    slice-write-index
+    place-requires
+    set-place-requires
     add-i
     loop-less
     loop-again

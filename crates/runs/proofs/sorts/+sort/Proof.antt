@@ -32,8 +32,6 @@ pub +sort-spec : {M : Type 1} → statement M
 +sort-spec = close μ-sort (λ t. sort-lts.spec (try-short-reads.Asked, try-short-reads.Learnt, half-reads.Asked, half-reads.Learnt, sort-below t, sort.Post, draw-reads.Asked, draw-reads.Learnt, merge-reads.Asked, merge-reads.Learnt) (sort-at t) sort.Post
     -- returns
     (λ c. sorted-none _ _ (c .if1 .taken))
-    -- slice-aggregate-try-short
-    (λ c. search needs)
     -- try-short-requires
     (λ c κs. search needs)
     -- same-length
@@ -41,7 +39,7 @@ pub +sort-spec : {M : Type 1} → statement M
     -- same-length-2
     (λ c. search needs)
     -- returns-2
-    (λ c. sorted-short _ _ _ _ (c .before .before .before .before .before .before .try-short .ensures) (c .if2 .taken))
+    (λ c. sorted-short _ _ _ _ (c .before .before .before .before .before .try-short .ensures) (c .if2 .taken))
     -- half-requires
     (λ c κs. search needs)
     -- same-length-3
@@ -49,7 +47,7 @@ pub +sort-spec : {M : Type 1} → statement M
     -- same-length-4
     (λ c. search needs)
     -- returns-3
-    (λ c. sorted-one _ _ _ _ _ (c .before .before .before .before .before .before .before .before .before .before .before .before .before .if1 .left) (c .before .before .before .before .before .before .before .before .before .try-short .ensures) (c .before .before .before .if2 .left) (c .before .half .ensures) (c .if3 .taken))
+    (λ c. sorted-one _ _ _ _ _ (c .before .before .before .before .before .before .before .before .before .before .before .if1 .left) (c .before .before .before .before .before .before .before .before .try-short .ensures) (c .before .before .before .if2 .left) (c .before .half .ensures) (c .if3 .taken))
     -- sub-sort
     (λ c. search needs)
     -- part-sort-start
@@ -57,7 +55,7 @@ pub +sort-spec : {M : Type 1} → statement M
     -- part-sort-end
     (λ c. search needs)
     -- sort-requires
-    (λ c κs. (left-falls (c .before .before .before .before .before .before .before .before .before .before .before .try-short .last .0) _ _ _ (c .before .before .before .half .ensures) (c .before .before .before .before .before .before .before .before .before .before .before .try-short .kept .0) (c .before .before .before .before .before .before .before .before .before .before .before .before .before .before .before .before .before .before .pre .0), tt))
+    (λ c κs. (left-falls (c .before .before .before .before .before .before .before .before .before .before .try-short .last .0) _ _ _ (c .before .before .before .half .ensures) (c .before .before .before .before .before .before .before .before .before .before .try-short .kept .0) (c .before .before .before .before .before .before .before .before .before .before .before .before .before .before .before .before .pre .0), tt))
     -- sub-sort-2
     (λ c. search needs)
     -- part-sort-start-2
@@ -65,21 +63,21 @@ pub +sort-spec : {M : Type 1} → statement M
     -- part-sort-end-2
     (λ c. search needs)
     -- sort-requires-2
-    (λ c κs. (right-falls (c .before .before .before .before .before .before .before .before .before .before .before .before .before .before .before .before .before .before .try-short .last .0) (c .before .before .before .before .before .before .sort .last .0) _ _ _ (c .before .before .before .before .before .before .before .before .before .before .half .ensures) (c .before .before .before .before .before .before .before .before .before .if3 .left) (c .before .before .before .before .before .before .before .before .before .before .before .before .before .before .before .before .before .before .try-short .kept .0) (c .before .before .before .before .before .before .before .before .before .before .before .before .before .before .before .before .before .before .before .before .before .before .before .before .before .pre .0) (c .before .before .before .before .before .before .sort .kept .0), tt))
+    (λ c κs. (right-falls (c .before .before .before .before .before .before .before .before .before .before .before .before .before .before .before .before .before .try-short .last .0) (c .before .before .before .before .before .before .sort .last .0) _ _ _ (c .before .before .before .before .before .before .before .before .before .before .half .ensures) (c .before .before .before .before .before .before .before .before .before .if3 .left) (c .before .before .before .before .before .before .before .before .before .before .before .before .before .before .before .before .before .try-short .kept .0) (c .before .before .before .before .before .before .before .before .before .before .before .before .before .before .before .before .before .before .before .before .before .before .before .pre .0) (c .before .before .before .before .before .before .sort .kept .0), tt))
     -- draw-requires
-    (λ c κs. sorted-room (c .before .before .before .before .before .before .before .before .before .before .before .before .before .before .before .before .before .before .before .before .before .before .before .before .before .before .before .before .before .before .before .args .last) (c .before .before .before .before .before .before .before .before .before .before .before .before .before .before .before .before .before .before .before .before .before .before .before .before .try-short .last .0) (c .before .before .before .before .before .before .before .before .before .before .before .before .sort .last .0) (c .before .before .before .before .before .sort2 .last .0) _ _ _ (c .before .before .before .before .before .before .before .before .before .before .before .before .before .before .before .before .half .ensures) (c .before .before .before .before .before .before .before .before .before .before .before .before .sort .kept .0) (c .before .before .before .before .before .before .before .before .before .before .before .before .sort .ensures) (c .before .before .before .before .before .sort2 .kept .0) (c .before .before .before .before .before .sort2 .ensures))
+    (λ c κs. sorted-room (c .before .before .before .before .before .before .before .before .before .before .before .before .before .before .before .before .before .before .before .before .before .before .before .before .before .before .before .before .before .args .last) (c .before .before .before .before .before .before .before .before .before .before .before .before .before .before .before .before .before .before .before .before .before .before .before .try-short .last .0) (c .before .before .before .before .before .before .before .before .before .before .before .before .sort .last .0) (c .before .before .before .before .before .sort2 .last .0) _ _ _ (c .before .before .before .before .before .before .before .before .before .before .before .before .before .before .before .before .half .ensures) (c .before .before .before .before .before .before .before .before .before .before .before .before .sort .kept .0) (c .before .before .before .before .before .before .before .before .before .before .before .before .sort .ensures) (c .before .before .before .before .before .sort2 .kept .0) (c .before .before .before .before .before .sort2 .ensures))
     -- sub-merge
     (λ c. search needs)
     -- part-merge-start
     (λ c. search needs)
     -- part-merge-end
-    (λ c. omega (arith, sorted-within (c .before .before .before .before .before .before .before .before .before .before .before .before .before .before .before .before .before .before .before .before .before .before .before .before .before .before .before .before .before .before .before .before .before .before .args .last) (c .before .before .before .before .before .before .before .before .before .before .before .before .before .before .before .before .before .before .before .before .before .before .before .before .before .before .before .try-short .last .0) (c .before .before .before .before .before .before .before .before .before .before .before .before .before .before .before .sort .last .0) (c .before .before .before .before .before .before .before .before .sort2 .last .0) _ _ _ (c .before .before .before .before .before .before .before .before .before .before .before .before .before .before .before .before .before .before .before .half .ensures) (c .before .before .before .before .before .before .before .before .before .before .before .before .before .before .before .sort .kept .0) (c .before .before .before .before .before .before .before .before .before .before .before .before .before .before .before .sort .ensures) (c .before .before .before .before .before .before .before .before .sort2 .kept .0) (c .before .before .before .before .before .before .before .before .sort2 .ensures) (c .before .before .draw .last .0) _ (c .before .before .draw .ensures)))
+    (λ c. omega (arith, sorted-within (c .before .before .before .before .before .before .before .before .before .before .before .before .before .before .before .before .before .before .before .before .before .before .before .before .before .before .before .before .before .before .before .before .args .last) (c .before .before .before .before .before .before .before .before .before .before .before .before .before .before .before .before .before .before .before .before .before .before .before .before .before .before .try-short .last .0) (c .before .before .before .before .before .before .before .before .before .before .before .before .before .before .before .sort .last .0) (c .before .before .before .before .before .before .before .before .sort2 .last .0) _ _ _ (c .before .before .before .before .before .before .before .before .before .before .before .before .before .before .before .before .before .before .before .half .ensures) (c .before .before .before .before .before .before .before .before .before .before .before .before .before .before .before .sort .kept .0) (c .before .before .before .before .before .before .before .before .before .before .before .before .before .before .before .sort .ensures) (c .before .before .before .before .before .before .before .before .sort2 .kept .0) (c .before .before .before .before .before .before .before .before .sort2 .ensures) (c .before .before .draw .last .0) _ (c .before .before .draw .ensures)))
     -- merge-requires
     (λ c κs. search needs)
     -- same-length-5
-    (λ c. sorted-kept (c .before .before .before .before .before .before .before .before .before .before .before .before .before .before .before .before .before .before .before .before .before .before .before .before .before .before .before .before .before .before .before .before .before .before .before .before .before .before .before .before .before .args .last) (c .before .before .before .before .before .before .before .before .before .before .before .before .before .before .before .before .before .before .before .before .before .before .before .before .before .before .before .before .before .before .before .before .before .before .try-short .last .0) (c .before .before .before .before .before .before .before .before .before .before .before .before .before .before .before .before .before .before .before .before .before .before .sort .last .0) (c .before .before .before .before .before .before .before .before .before .before .before .before .before .before .before .sort2 .last .0) _ _ _ (c .before .before .before .before .before .before .before .before .before .before .before .before .before .before .before .before .before .before .before .before .before .before .before .before .before .before .half .ensures) (c .before .before .before .before .before .before .before .before .before .before .before .before .before .before .before .before .before .before .before .before .before .before .sort .kept .0) (c .before .before .before .before .before .before .before .before .before .before .before .before .before .before .before .before .before .before .before .before .before .before .sort .ensures) (c .before .before .before .before .before .before .before .before .before .before .before .before .before .before .before .sort2 .kept .0) (c .before .before .before .before .before .before .before .before .before .before .before .before .before .before .before .sort2 .ensures) (c .before .before .before .before .before .before .before .before .before .draw .last .0) _ (c .before .before .before .before .before .before .before .before .before .draw .ensures) (c .before .before .before .before .merge .last .0) (c .before .before .before .before .before .before .before .before .before .before .before .before .before .before .before .before .before .before .before .before .before .before .before .before .before .before .before .before .before .before .before .before .before .before .before .before .before .before .before .before .before .args .s .now) (c .before .before .before .before .before .before .before .before .before .before .before .before .before .before .before .before .before .before .before .before .before .before .before .before .before .before .before .before .before .before .before .before .before .before .try-short .kept .0) (c .before .before .before .before .merge .kept .0))
+    (λ c. sorted-kept (c .before .before .before .before .before .before .before .before .before .before .before .before .before .before .before .before .before .before .before .before .before .before .before .before .before .before .before .before .before .before .before .before .before .before .before .before .before .before .before .args .last) (c .before .before .before .before .before .before .before .before .before .before .before .before .before .before .before .before .before .before .before .before .before .before .before .before .before .before .before .before .before .before .before .before .before .try-short .last .0) (c .before .before .before .before .before .before .before .before .before .before .before .before .before .before .before .before .before .before .before .before .before .before .sort .last .0) (c .before .before .before .before .before .before .before .before .before .before .before .before .before .before .before .sort2 .last .0) _ _ _ (c .before .before .before .before .before .before .before .before .before .before .before .before .before .before .before .before .before .before .before .before .before .before .before .before .before .before .half .ensures) (c .before .before .before .before .before .before .before .before .before .before .before .before .before .before .before .before .before .before .before .before .before .before .sort .kept .0) (c .before .before .before .before .before .before .before .before .before .before .before .before .before .before .before .before .before .before .before .before .before .before .sort .ensures) (c .before .before .before .before .before .before .before .before .before .before .before .before .before .before .before .sort2 .kept .0) (c .before .before .before .before .before .before .before .before .before .before .before .before .before .before .before .sort2 .ensures) (c .before .before .before .before .before .before .before .before .before .draw .last .0) _ (c .before .before .before .before .before .before .before .before .before .draw .ensures) (c .before .before .before .before .merge .last .0) (c .before .before .before .before .before .before .before .before .before .before .before .before .before .before .before .before .before .before .before .before .before .before .before .before .before .before .before .before .before .before .before .before .before .before .before .before .before .before .before .args .s .now) (c .before .before .before .before .before .before .before .before .before .before .before .before .before .before .before .before .before .before .before .before .before .before .before .before .before .before .before .before .before .before .before .before .before .try-short .kept .0) (c .before .before .before .before .merge .kept .0))
     -- same-length-6
-    (λ c. c .before .before .before .before .merge .kept .1 .1 .0 ∙ c .before .before .before .before .before .before .before .before .before .before .before .before .before .before .before .sort2 .kept .1 .0 ∙ c .before .before .before .before .before .before .before .before .before .before .before .before .before .before .before .before .before .before .before .before .before .before .sort .kept .1 .0 ∙ c .before .before .before .before .before .before .before .before .before .before .before .before .before .before .before .before .before .before .before .before .before .before .before .before .before .before .before .before .before .before .before .before .before .before .try-short .kept .1 .0)
+    (λ c. c .before .before .before .before .merge .kept .1 .1 .0 ∙ c .before .before .before .before .before .before .before .before .before .before .before .before .before .before .before .sort2 .kept .1 .0 ∙ c .before .before .before .before .before .before .before .before .before .before .before .before .before .before .before .before .before .before .before .before .before .before .sort .kept .1 .0 ∙ c .before .before .before .before .before .before .before .before .before .before .before .before .before .before .before .before .before .before .before .before .before .before .before .before .before .before .before .before .before .before .before .before .before .try-short .kept .1 .0)
     -- returns-4
-    (λ c. sorted-both (c .before .before .before .before .before .before .before .before .before .before .before .before .before .before .before .before .before .before .before .before .before .before .before .before .before .before .before .before .before .before .before .before .before .before .before .before .before .before .before .before .before .args .last) (c .before .before .before .before .before .before .before .before .before .before .before .before .before .before .before .before .before .before .before .before .before .before .before .before .before .before .before .before .before .before .before .before .before .before .before .before .before .before .before .before .before .args .s .now) (c .before .before .before .before .before .before .before .before .before .before .before .before .before .before .before .before .before .before .before .before .before .before .before .before .before .before .before .before .before .before .before .before .before .before .try-short .last .0) _ _ _ (c .before .before .before .before .before .before .before .before .before .before .before .before .before .before .before .before .before .before .before .before .before .before .before .before .before .before .before .before .before .before .before .before .before .before .try-short .ensures) (c .before .before .before .before .before .before .before .before .before .before .before .before .before .before .before .before .before .before .before .before .before .before .before .before .before .before .before .before .if2 .left) (sorted-two (c .before .before .before .before .before .before .before .before .before .before .before .before .before .before .before .before .before .before .before .before .before .before .before .before .before .before .before .before .before .before .before .before .before .before .before .before .before .before .before .before .before .args .last) (c .before .before .before .before .before .before .before .before .before .before .before .before .before .before .before .before .before .before .before .before .before .before .before .before .before .before .before .before .before .before .before .before .before .before .try-short .last .0) (c .before .before .before .before .before .before .before .before .before .before .before .before .before .before .before .before .before .before .before .before .before .before .sort .last .0) (c .before .before .before .before .before .before .before .before .before .before .before .before .before .before .before .sort2 .last .0) _ _ _ (c .before .before .before .before .before .before .before .before .before .before .before .before .before .before .before .before .before .before .before .before .before .before .before .before .before .before .half .ensures) (c .before .before .before .before .before .before .before .before .before .before .before .before .before .before .before .before .before .before .before .before .before .before .sort .kept .0) (c .before .before .before .before .before .before .before .before .before .before .before .before .before .before .before .before .before .before .before .before .before .before .sort .ensures) (c .before .before .before .before .before .before .before .before .before .before .before .before .before .before .before .sort2 .kept .0) (c .before .before .before .before .before .before .before .before .before .before .before .before .before .before .before .sort2 .ensures) (c .before .before .before .before .before .before .before .before .before .draw .last .0) _ (c .before .before .before .before .before .before .before .before .before .draw .ensures) (c .before .before .before .before .merge .last .0) _ (c .before .before .before .before .merge .kept .0) (c .before .before .before .before .merge .ensures)))
+    (λ c. sorted-both (c .before .before .before .before .before .before .before .before .before .before .before .before .before .before .before .before .before .before .before .before .before .before .before .before .before .before .before .before .before .before .before .before .before .before .before .before .before .before .before .args .last) (c .before .before .before .before .before .before .before .before .before .before .before .before .before .before .before .before .before .before .before .before .before .before .before .before .before .before .before .before .before .before .before .before .before .before .before .before .before .before .before .args .s .now) (c .before .before .before .before .before .before .before .before .before .before .before .before .before .before .before .before .before .before .before .before .before .before .before .before .before .before .before .before .before .before .before .before .before .try-short .last .0) _ _ _ (c .before .before .before .before .before .before .before .before .before .before .before .before .before .before .before .before .before .before .before .before .before .before .before .before .before .before .before .before .before .before .before .before .before .try-short .ensures) (c .before .before .before .before .before .before .before .before .before .before .before .before .before .before .before .before .before .before .before .before .before .before .before .before .before .before .before .before .if2 .left) (sorted-two (c .before .before .before .before .before .before .before .before .before .before .before .before .before .before .before .before .before .before .before .before .before .before .before .before .before .before .before .before .before .before .before .before .before .before .before .before .before .before .before .args .last) (c .before .before .before .before .before .before .before .before .before .before .before .before .before .before .before .before .before .before .before .before .before .before .before .before .before .before .before .before .before .before .before .before .before .try-short .last .0) (c .before .before .before .before .before .before .before .before .before .before .before .before .before .before .before .before .before .before .before .before .before .before .sort .last .0) (c .before .before .before .before .before .before .before .before .before .before .before .before .before .before .before .sort2 .last .0) _ _ _ (c .before .before .before .before .before .before .before .before .before .before .before .before .before .before .before .before .before .before .before .before .before .before .before .before .before .before .half .ensures) (c .before .before .before .before .before .before .before .before .before .before .before .before .before .before .before .before .before .before .before .before .before .before .sort .kept .0) (c .before .before .before .before .before .before .before .before .before .before .before .before .before .before .before .before .before .before .before .before .before .before .sort .ensures) (c .before .before .before .before .before .before .before .before .before .before .before .before .before .before .before .sort2 .kept .0) (c .before .before .before .before .before .before .before .before .before .before .before .before .before .before .before .sort2 .ensures) (c .before .before .before .before .before .before .before .before .before .draw .last .0) _ (c .before .before .before .before .before .before .before .before .before .draw .ensures) (c .before .before .before .before .merge .last .0) _ (c .before .before .before .before .merge .kept .0) (c .before .before .before .before .merge .ensures)))
     )
