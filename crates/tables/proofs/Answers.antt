@@ -10,7 +10,3 @@ module _ (a b r : Bool) (e : r ≡ a) where
 
   pub and-yes : not r ≡ false → (s : Bool) → s ≡ b → s ≡ (a && b)
   and-yes h s g = rw (sym e, not-false r h) g
-
-pub and-third : (a b d : Bool) → ((a && b) && d) ≡ (a && (b && d))
-and-third true b d = refl
-and-third false b d = refl

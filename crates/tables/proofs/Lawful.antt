@@ -11,7 +11,7 @@ use lib.Dec.{leb}
 use lib.ListN.{length}
 use borrow.Author.Tests.{leb-true}
 use Rattle.ground.specs.Lists.{all, at, distinct}
-use Rattle.ground.proofs.Tests.{by-test}
+use Rattle.ground.proofs.Tests.{by-test, both-left, both-right}
 use Rattle.refusals.specs.declared.Refusal.the-variants.{BadTable}
 use Rattle.arena.specs.Text.{sameText}
 use Rattle.tables.specs.declared.check.Checked.the-variants.{Passed, Refused}
@@ -21,14 +21,6 @@ use Rattle.tables.specs.Rules.{rowLimit, sortRight, sortsRight, sameSort
 use Rattle.tables.specs.Check.{passes, checked}
 use Rattle.tables.proofs.Places.{none-some, some-one}
 
-and-left : (a b : Bool) → (a && b) ≡ true → a ≡ true
-and-left true b e = refl
-and-left false b e = e
-
-and-right : (a b : Bool) → (a && b) ≡ true → b ≡ true
-and-right true b e = e
-and-right false b e = absurd (true≢false (sym e))
-
 -- a table in its parts
 pub record Tabled {A : Type 0} (right : A → Bool) (same : A → A → Bool) (rows : List A) : Type 0 where
   pub few : length rows ≤ rowLimit
@@ -37,11 +29,11 @@ pub record Tabled {A : Type 0} (right : A → Bool) (same : A → A → Bool) (r
 
 tabled : {A : Type 0} (right : A → Bool) (same : A → A → Bool) (rows : List A) → table right same rows ≡ true → Tabled right same rows
 tabled right same rows e =
-    let h = and-left (leb (length rows) rowLimit && all right rows) (distinct same rows) e in
+    let h = both-left (leb (length rows) rowLimit && all right rows) (distinct same rows) e in
     record {
-      few = leb-true (length rows) rowLimit (and-left (leb (length rows) rowLimit) (all right rows) h);
-      each = and-right (leb (length rows) rowLimit) (all right rows) h;
-      apart = and-right (leb (length rows) rowLimit && all right rows) (distinct same rows) e;
+      few = leb-true (length rows) rowLimit (both-left (leb (length rows) rowLimit) (all right rows) h);
+      each = both-right (leb (length rows) rowLimit) (all right rows) h;
+      apart = both-right (leb (length rows) rowLimit && all right rows) (distinct same rows) e;
     }
 
 pub record Lawful (t : Tables) : Type 0 where
@@ -74,27 +66,27 @@ module _ (t : Tables) where
   pub lawful-parts : lawful t ≡ true → Lawful t
   unfolding lawful
   lawful-parts e =
-      let e3 = and-left (sorts-kept && variables-kept && functions-kept) members-kept e in
-      let e2 = and-left (sorts-kept && variables-kept) functions-kept e3 in
-      let e1 = and-left sorts-kept variables-kept e2 in
-      let e0 = and-left sorts-first (distinct sameSort (t .sorts)) e1 in
+      let e3 = both-left (sorts-kept && variables-kept && functions-kept) members-kept e in
+      let e2 = both-left (sorts-kept && variables-kept) functions-kept e3 in
+      let e1 = both-left sorts-kept variables-kept e2 in
+      let e0 = both-left sorts-first (distinct sameSort (t .sorts)) e1 in
       record {
-        few = leb-true (length (t .sorts)) rowLimit (and-left sorts-limited (sortsRight 0 (t .sorts)) e0);
-        sorts = and-right sorts-limited (sortsRight 0 (t .sorts)) e0;
-        apart = and-right sorts-first (distinct sameSort (t .sorts)) e1;
-        variables = tabled (variableRight t) (λ v w. sameText (v .name) (w .name)) (t .variables) (and-right sorts-kept variables-kept e2);
-        functions = tabled (functionRight t) (λ f g. sameText (f .name) (g .name)) (t .functions) (and-right (sorts-kept && variables-kept) functions-kept e3);
-        members = tabled (memberRight t) (λ m n. sameText (m .name) (n .name)) (t .members) (and-right (sorts-kept && variables-kept && functions-kept) members-kept e);
+        few = leb-true (length (t .sorts)) rowLimit (both-left sorts-limited (sortsRight 0 (t .sorts)) e0);
+        sorts = both-right sorts-limited (sortsRight 0 (t .sorts)) e0;
+        apart = both-right sorts-first (distinct sameSort (t .sorts)) e1;
+        variables = tabled (variableRight t) (λ v w. sameText (v .name) (w .name)) (t .variables) (both-right sorts-kept variables-kept e2);
+        functions = tabled (functionRight t) (λ f g. sameText (f .name) (g .name)) (t .functions) (both-right (sorts-kept && variables-kept) functions-kept e3);
+        members = tabled (memberRight t) (λ m n. sameText (m .name) (n .name)) (t .members) (both-right (sorts-kept && variables-kept && functions-kept) members-kept e);
       }
 
 module _ (l : Lent) (e : passes l ≡ true) where
   pub passes-formed : formed l ≡ true
   unfolding passes
-  passes-formed = and-left (formed l) (lawful (tablesOf l)) e
+  passes-formed = both-left (formed l) (lawful (tablesOf l)) e
 
   pub passes-lawful : Lawful (tablesOf l)
   unfolding passes
-  passes-lawful = lawful-parts (tablesOf l) (and-right (formed l) (lawful (tablesOf l)) e)
+  passes-lawful = lawful-parts (tablesOf l) (both-right (formed l) (lawful (tablesOf l)) e)
 
 -- the check's answer is yes of such tables alone
 pub passed-passes : (l : Lent) → checked l ≡ Passed → passes l ≡ true
@@ -106,17 +98,17 @@ passed-passes l e =
 pub all-at : {A : Type 0} (test : A → Bool) (xs : List A) (i : ℕ) (x : A) → all test xs ≡ true → at xs i ≡ some x → test x ≡ true
 unfolding all at
 all-at test [] i x e h = absurd (none-some h)
-all-at test (y ∷ ys) zero x e h = ap test (sym (some-one h)) ∙ and-left (test y) (all test ys) e
-all-at test (y ∷ ys) (suc i) x e h = all-at test ys i x (and-right (test y) (all test ys) e) h
+all-at test (y ∷ ys) zero x e h = ap test (sym (some-one h)) ∙ both-left (test y) (all test ys) e
+all-at test (y ∷ ys) (suc i) x e h = all-at test ys i x (both-right (test y) (all test ys) e) h
 
 sorts-from : (k : ℕ) (ss : List Sort) (i : ℕ) (s : Sort) → sortsRight k ss ≡ true → at ss i ≡ some s → sortRight (k + i) s ≡ true
 unfolding sortsRight at
 sorts-from k [] i s e h = absurd (none-some h)
 sorts-from k (y ∷ ss) zero s e h =
-    rw (add-zero k) (ap (λ (x : Sort). sortRight k x) (sym (some-one h)) ∙ and-left (sortRight k y) (sortsRight (suc k) ss) e)
+    rw (add-zero k) (ap (λ (x : Sort). sortRight k x) (sym (some-one h)) ∙ both-left (sortRight k y) (sortsRight (suc k) ss) e)
 sorts-from k (y ∷ ss) (suc i) s e h =
     let g : suc k + i ≡ k + suc i = omega arith in
-    ap (λ (j : ℕ). sortRight j s) (sym g) ∙ sorts-from (suc k) ss i s (and-right (sortRight k y) (sortsRight (suc k) ss) e) h
+    ap (λ (j : ℕ). sortRight j s) (sym g) ∙ sorts-from (suc k) ss i s (both-right (sortRight k y) (sortsRight (suc k) ss) e) h
 
 module _ (t : Tables) (h : Lawful t) (i : ℕ) where
   pub sort-right : (s : Sort) → at (t .sorts) i ≡ some s → sortRight i s ≡ true

@@ -1,4 +1,5 @@
 pub mod Ranges
+pub mod Glances
 pub mod Words
 pub mod Answers
 pub mod Keeps
@@ -8,6 +9,8 @@ pub mod Finds
 pub mod Sorts
 pub mod Rights
 pub mod Alones
+pub mod Slots
+pub mod Marks
 pub mod ByKind
 pub mod Tabled
 pub mod Passes

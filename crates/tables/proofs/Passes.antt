@@ -1,7 +1,7 @@
 -- The check of each table, row by row, is the form and the rules of document 01.
 -- Assumes nothing.
 use mathlib.Core.Path.{_≡_, refl, sym, ap, _∙_}
-use mathlib.Core.Bool.{Bool, true, false, _&&_}
+use mathlib.Core.Bool.{Bool, true, false, _&&_, and-assoc}
 use mathlib.Core.List.{List, []}
 use mathlib.Core.Option.{some}
 use Prim.Native.Nat.{ℕ, zero, suc, _-_, _<_}
@@ -22,7 +22,6 @@ use Rattle.tables.specs.Right.{lentSorts, rightSort, rightVariable, righ
 use Rattle.refusals.specs.declared.Refusal.the-variants.{BadTable}
 use Rattle.tables.specs.declared.check.Checked.the-variants.{Passed, Refused}
 use Rattle.tables.specs.Check.{passes, checked}
-use Rattle.tables.proofs.Answers.{and-third}
 use Rattle.tables.proofs.Places.{length-tabulate, at-tabulate, at-past}
 use Rattle.tables.proofs.Searches.{exchange, every-all, every-both, every-distinct}
 use Rattle.tables.proofs.Sorts.{by-kind, identity-fields}
@@ -72,8 +71,8 @@ gather : (a b c d p q r s : Bool) → ((((a && b) && c) && d) && (((p && q) && r
 gather a b c d p q r s =
     exchange ((a && b) && c) d ((p && q) && r) s
     ∙ ap (λ (x : Bool). x && (d && s)) (exchange (a && b) c (p && q) r ∙ ap (λ (x : Bool). x && (c && r)) (exchange a b p q))
-    ∙ and-third ((a && p) && (b && q)) (c && r) (d && s)
-    ∙ and-third (a && p) (b && q) ((c && r) && (d && s))
+    ∙ and-assoc ((a && p) && (b && q)) (c && r) (d && s)
+    ∙ and-assoc (a && p) (b && q) ((c && r) && (d && s))
 
 module _ (l : Lent) where
   abbrev sortList : List Sort
@@ -123,7 +122,7 @@ module _ (l : Lent) where
   unfolding tablesOf
   variable-split i =
       rw (length-tabulate (sortAt l) 0 (count (l .sorts)))
-      (and-third (nameInside (l .names) (l .variables) i) (nameRight (nameAt (l .names) (l .variables) i)) (ltb (word (l .variables) i 2) (count (l .sorts))))
+      (and-assoc (nameInside (l .names) (l .variables) i) (nameRight (nameAt (l .names) (l .variables) i)) (ltb (word (l .variables) i 2) (count (l .sorts))))
 
   abbrev variableList : List Variable
   variableList = tabulate (variableAt l) 0 (count (l .variables))

@@ -9,7 +9,7 @@ use native.Mathlib.Nat.{add-zero, zero-add}
 use native.Mathlib.Omega.{arith}
 use lib.ListN.{length}
 use Rattle.ground.specs.Lists.{any, distinct, up, find, at, tabulate}
-use Rattle.ground.proofs.Tests.{by-test}
+use Rattle.ground.proofs.Tests.{by-test, both-right}
 
 module _ {A : Type 0} (f : ℕ → A) where
   pub length-tabulate : (k n : ℕ) → length (tabulate f k n) ≡ n
@@ -86,7 +86,4 @@ module _ {A : Type 0} where
           (λ h. let z : any (same x) xs ≡ true = any-at (same x) xs j y a (joins x y h t) in absurd (true≢false (sym (rw z at d))))
           (λ h.
           let u = up-some (find test xs) i (rw h at e) in
-          u .2 ∙ ap suc (find-only xs (u .0) j y (and-right (not (any (same x) xs)) (distinct same xs) d) (u .1) a t)) where
-            and-right : (a b : Bool) → (a && b) ≡ true → b ≡ true
-            and-right true b e = e
-            and-right false b e = absurd (true≢false (sym e))
+          u .2 ∙ ap suc (find-only xs (u .0) j y (both-right (not (any (same x) xs)) (distinct same xs) d) (u .1) a t))

@@ -1,7 +1,7 @@
 -- One row against the form and the rules, by what the code looks at.
 -- Assumes nothing.
 use mathlib.Core.Path.{_≡_, refl, sym, ap, _∙_}
-use mathlib.Core.Bool.{Bool, true, false, not, _&&_}
+use mathlib.Core.Bool.{Bool, true, false, not, _&&_, and-assoc}
 use mathlib.Core.List.{List}
 use Prim.Native.Nat.{ℕ, _+_, _-_, _%_, _≤_, _<_}
 use native.Mathlib.Omega.{arith}
@@ -19,7 +19,6 @@ use Rattle.tables.specs.Range.{Clamps}
 use Rattle.tables.specs.Kept.{kept}
 use Rattle.tables.specs.Rules.{nameRight}
 use Rattle.tables.specs.Right.{rightName, rightOwn, rightText, entityAt, sized}
-use Rattle.tables.proofs.Answers.{and-third}
 use Rattle.tables.proofs.Ranges.{length-clamped}
 
 -- so many entries from one on are all there
@@ -44,7 +43,7 @@ right-short name h r e = rw (le-leb (length name) 65536 h) e
 
 module _ (names ws : List ℕ) (i : ℕ) (r : Bool) (e : r ≡ rightName names ws i) where
   own-both : (r && not (kept (nameAt names ws i))) ≡ rightOwn names ws i
-  own-both = rw e (and-third (nameInside names ws i) (nameRight (nameAt names ws i)) (not (kept (nameAt names ws i))))
+  own-both = rw e (and-assoc (nameInside names ws i) (nameRight (nameAt names ws i)) (not (kept (nameAt names ws i))))
 
   pub own-no : not r ≡ true → false ≡ rightOwn names ws i
   own-no h = rw (sym own-both, not-true r h)

@@ -7,6 +7,8 @@ use Prim.Native.Nat.{ℕ, zero, suc, _+_, _-_, _≤_, _<_}
 use native.Mathlib.Nat.{add-zero}
 use native.Mathlib.Numerals.{add-one}
 use native.Mathlib.Omega.{arith}
+use lib.Dec.{eqb}
+use borrow.Author.Tests.{eqb-true, eqb-false}
 use Rattle.ground.specs.Lists.{any, all, distinct, up, find, tabulate}
 use Rattle.ground.proofs.Tests.{by-test, and-false}
 use Rattle.tables.specs.declared.find.Found.{Found}
@@ -95,6 +97,25 @@ pub first-same : (test other : ℕ → Bool) → ((i : ℕ) → test i ≡ other
 unfolding firstRow
 first-same test other agree k zero = refl
 first-same test other agree k (suc n) = rw (agree k, first-same test other agree (suc k) n)
+
+-- a test that no row passes, and one that some row does not pass
+pub first-absent : (test : ℕ → Bool) (k m : ℕ) → ((j : ℕ) → k ≤ j → j < k + m → test j ≡ false) → firstRow test k m ≡ NoRow
+unfolding firstRow
+first-absent test k zero h = refl
+first-absent test k (suc m) h =
+    rw (h k (omega arith) (omega arith))
+    (first-absent test (suc k) m (λ j a b. h j (omega arith) (omega arith)))
+
+pub every-missed : (test : ℕ → Bool) (j k m : ℕ) → k ≤ j → j < k + m → test j ≡ false → everyRow test k m ≡ false
+unfolding everyRow
+every-missed test j k zero a b e = absurd (omega arith)
+every-missed test j k (suc m) a b e =
+    by-test (eqb k j)
+    (λ t. let q : k ≡ j = eqb-true k j t in rw (q, e))
+    (λ t.
+    let q = eqb-false k j t in
+    ap (λ (x : Bool). test k && x) (every-missed test j (suc k) m (omega (arith, q)) (omega arith) e)
+    ∙ and-false (test k))
 
 -- two tests of each row
 pub every-both : (test a b : ℕ → Bool) → ((i : ℕ) → test i ≡ (a i && b i)) → (k n : ℕ) → everyRow test k n ≡ (everyRow a k n && everyRow b k n)

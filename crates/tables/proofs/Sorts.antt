@@ -10,7 +10,7 @@ use native.Mathlib.Omega.{arith}
 use lib.Dec.{leb, ltb, eqb}
 use borrow.Author.Tests.{eq-eqb, ne-eqb, eqb-true, eqb-false, le-leb, leb-false, lt-ltb, le-ltb}
 use Rattle.ground.specs.Lists.{at}
-use Rattle.ground.proofs.Tests.{by-test, by-order}
+use Rattle.ground.proofs.Tests.{and-true, by-test, by-order}
 use Rattle.arena.specs.Text.{sameText}
 use Rattle.tables.specs.declared.find.Found.{Found}
 use Rattle.tables.specs.declared.sort.SortRow.{SortRow}
@@ -81,10 +81,6 @@ eqb-sym a b =
     by-test (eqb a b)
     (λ e. e ∙ sym (eq-eqb b a (sym (eqb-true a b e))))
     (λ e. e ∙ sym (ne-eqb b a (λ h. eqb-false a b e (sym h))))
-
-and-true : (a : Bool) → (a && true) ≡ a
-and-true true = refl
-and-true false = refl
 
 same-none : sameText [] [] ≡ true
 unfolding sameText

@@ -5,6 +5,7 @@ pub mod Kept
 pub mod Rules
 pub mod Find
 pub mod Search
+pub mod Slot
 pub mod View
 pub mod Lookup
 pub mod Right

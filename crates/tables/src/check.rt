@@ -1,22 +1,15 @@
-// The check of 25: each table's size and form, each row, and each pair of rows once.
-use crate::find::find_name;
-use crate::find::is_row;
+// The check of 25: each table's size and form, each row, and that no two rows are the same.
+use crate::alone::are_alone;
+use crate::alone::are_alone_sorts;
 use crate::row::STRIDE;
-use crate::row::clamp;
 use crate::row::count;
-use crate::row::word;
 use crate::rules::is_function;
 use crate::rules::is_member;
 use crate::rules::is_sort;
 use crate::rules::is_variable;
-use crate::sort::find_kind;
-use crate::sort::find_named;
-use crate::sort::has_name;
 use refusals::Refusal;
 ghost use mathlib.Core.Path.{_≡_};
 ghost use mathlib.Core.Bool.{_&&_};
-ghost use Prim.Native.Nat.{_<_};
-ghost use Rattle.tables.specs.Layout.{count};
 ghost use Rattle.tables.specs.Right.{rightSort, rightVariable, rightFunction, rightMember, alone, aloneSort, sized, tablePasses};
 ghost use Rattle.tables.specs.Check.{checked};
 
@@ -36,32 +29,6 @@ fn is_table(rows: &[u64]) -> bool
     count(rows) <= MOST_ROWS
 }
 
-// No later row has the name.
-fn is_alone(rows: &[u64], names: &[u8], row: usize) -> bool
-    requires { ⌜ row < count (now rows) ⌝ }
-    ensures { λ r. ⌜ r ≡ alone (now (names .entry)) (now (rows .entry)) row ⌝ }
-{
-    let range = clamp(word(rows, row, 0), word(rows, row, 1), names.len());
-    let start = range.start;
-    let end = range.end;
-    !is_row(find_name(rows, names, &names[start..end], row + 1))
-}
-
-// No later row is the same sort.
-fn is_alone_sort(sorts: &[u64], names: &[u8], row: usize) -> bool
-    requires { ⌜ row < count (now sorts) ⌝ }
-    ensures { λ r. ⌜ r ≡ aloneSort (now (sorts .entry)) (now (names .entry)) row ⌝ }
-{
-    let kind = word(sorts, row, 2);
-    if has_name(kind) {
-        let range = clamp(word(sorts, row, 0), word(sorts, row, 1), names.len());
-        let start = range.start;
-        let end = range.end;
-        return !is_row(find_named(sorts, names, &names[start..end], row + 1));
-    }
-    !is_row(find_kind(sorts, kind, word(sorts, row, 3), row + 1))
-}
-
 fn check_sorts(sorts: &[u64], fields: &[u64], names: &[u8]) -> bool
     ensures { λ r. ⌜ r ≡ tablePasses (now (sorts .entry)) (λ i. rightSort (now (sorts .entry)) (now (fields .entry)) (now (names .entry)) i && aloneSort (now (sorts .entry)) (now (names .entry)) i) ⌝ }
 {
@@ -74,12 +41,9 @@ fn check_sorts(sorts: &[u64], fields: &[u64], names: &[u8]) -> bool
         if !is_sort(sorts, fields, names, i) {
             return false;
         }
-        if !is_alone_sort(sorts, names, i) {
-            return false;
-        }
         i += 1;
     }
-    true
+    are_alone_sorts(sorts, names)
 }
 
 fn check_variables(variables: &[u64], names: &[u8], sorts: usize) -> bool
@@ -94,12 +58,9 @@ fn check_variables(variables: &[u64], names: &[u8], sorts: usize) -> bool
         if !is_variable(variables, names, i, sorts) {
             return false;
         }
-        if !is_alone(variables, names, i) {
-            return false;
-        }
         i += 1;
     }
-    true
+    are_alone(variables, names)
 }
 
 fn check_functions(functions: &[u64], names: &[u8], sorts: usize) -> bool
@@ -114,12 +75,9 @@ fn check_functions(functions: &[u64], names: &[u8], sorts: usize) -> bool
         if !is_function(functions, names, i, sorts) {
             return false;
         }
-        if !is_alone(functions, names, i) {
-            return false;
-        }
         i += 1;
     }
-    true
+    are_alone(functions, names)
 }
 
 fn check_members(members: &[u64], sorts: &[u64], names: &[u8]) -> bool
@@ -134,12 +92,9 @@ fn check_members(members: &[u64], sorts: &[u64], names: &[u8]) -> bool
         if !is_member(members, sorts, names, i) {
             return false;
         }
-        if !is_alone(members, names, i) {
-            return false;
-        }
         i += 1;
     }
-    true
+    are_alone(members, names)
 }
 
 pub fn check_tables(

@@ -1,13 +1,14 @@
 // A name to its row: the first one that has it.
 use crate::row::clamp;
 use crate::row::count;
+use crate::row::is_inside;
 use crate::row::word;
 use arena::same;
 ghost use mathlib.Core.Path.{_≡_};
 ghost use Prim.Native.Nat.{_-_};
 ghost use Rattle.arena.specs.Text.{sameText};
 ghost use Rattle.tables.specs.Layout.{count, nameAt};
-ghost use Rattle.tables.specs.Lookup.{FindsVariable, FindsFunction, FindsMember};
+ghost use Rattle.tables.specs.Lookup.{MayBeNamed, FindsVariable, FindsFunction, FindsMember};
 ghost use Rattle.tables.specs.Search.{isRow, firstRow};
 
 pub enum Found {
@@ -22,6 +23,26 @@ pub fn is_row(found: Found) -> bool
         Found::Row(_) => true,
         Found::NoRow => false,
     }
+}
+
+// A quick answer, no only where the row does not have the name: names of one table mostly differ in length or in the last byte.
+pub fn may_be_named(rows: &[u64], names: &[u8], row: usize, name: &[u8]) -> bool
+    ensures { λ r. ⌜ MayBeNamed (now (rows .entry)) (now (names .entry)) (now (name .entry)) row r ⌝ }
+{
+    let first = word(rows, row, 0);
+    let size = word(rows, row, 1);
+    if !is_inside(first, size, names.len()) {
+        return true;
+    }
+    if size != name.len() as u64 {
+        return false;
+    }
+    if size == 0 {
+        return true;
+    }
+    let last = name.len() - 1;
+    let there = first as usize + last;
+    names[there] == name[last]
 }
 
 // Lengths are compared first, then bytes from the first one on.
@@ -41,6 +62,10 @@ pub fn find_name(rows: &[u64], names: &[u8], name: &[u8], from: usize) -> Found
     let rows_there = count(rows);
     let mut i = from;
     while i < rows_there {
+        if !may_be_named(rows, names, i, name) {
+            i += 1;
+            continue;
+        }
         if is_named(rows, names, i, name) {
             return Found::Row(i);
         }

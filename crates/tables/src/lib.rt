@@ -1,9 +1,11 @@
 // The tables that the decoder is lent: sorts, variables, functions, enum members.
+mod alone;
 mod check;
 mod find;
 mod kept;
 mod row;
 mod rules;
+mod slot;
 mod sort;
 
 pub use check::Checked;

@@ -1,5 +1,7 @@
 // A row's words, and the bytes or fields that two of them stand for. The stride stands here and nowhere else in the code.
 ghost use mathlib.Core.Path.{_≡_};
+ghost use Prim.Native.Nat.{_+_};
+ghost use lib.Dec.{leb};
 ghost use Rattle.tables.specs.Layout.{count, word};
 ghost use Rattle.tables.specs.Range.{Clamps};
 
@@ -24,6 +26,17 @@ pub fn word(words: &[u64], row: usize, k: usize) -> u64
         return 0;
     }
     words[first + k]
+}
+
+// Whether so many entries from the first on are all there.
+pub fn is_inside(first: u64, size: u64, most: usize) -> bool
+    ensures { λ r. ⌜ r ≡ leb (first + size) most ⌝ }
+{
+    let room = most as u64;
+    if room < first {
+        return false;
+    }
+    size <= room - first
 }
 
 // What lies from start to end.

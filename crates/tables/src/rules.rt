@@ -2,6 +2,7 @@
 use crate::kept::is_kept;
 use crate::row::clamp;
 use crate::row::count;
+use crate::row::is_inside;
 use crate::row::word;
 use crate::sort::BIT_VEC;
 use crate::sort::ENTITY;
@@ -9,7 +10,6 @@ use lexicon::is_symbol;
 use utf8::is_utf8;
 ghost use mathlib.Core.Path.{_≡_};
 ghost use mathlib.Core.Bool.{_&&_};
-ghost use Prim.Native.Nat.{_+_};
 ghost use lib.Dec.{leb, ltb};
 ghost use Rattle.ground.specs.Lists.{all};
 ghost use Rattle.tables.specs.Rules.{nameRight};
@@ -22,16 +22,6 @@ const MOST_FIELDS: usize = 256;
 const MOST_WIDTH: u64 = 128;
 
 const LAST_KIND: u64 = 10;
-
-fn is_inside(first: u64, size: u64, most: usize) -> bool
-    ensures { λ r. ⌜ r ≡ leb (first + size) most ⌝ }
-{
-    let room = most as u64;
-    if room < first {
-        return false;
-    }
-    size <= room - first
-}
 
 fn is_right(name: &[u8]) -> bool
     ensures { λ r. ⌜ r ≡ nameRight (now (name .entry)) ⌝ }

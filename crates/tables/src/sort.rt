@@ -1,6 +1,7 @@
 // A sort row by its number, and the rows of a sort and of a sort's name.
 use crate::find::Found;
 use crate::find::is_named;
+use crate::find::may_be_named;
 use crate::row::count;
 use crate::row::word;
 ghost use mathlib.Core.Path.{_≡_};
@@ -163,6 +164,10 @@ pub fn find_named(sorts: &[u64], names: &[u8], name: &[u8], from: usize) -> Foun
     let rows_there = count(sorts);
     let mut i = from;
     while i < rows_there {
+        if !may_be_named(sorts, names, i, name) {
+            i += 1;
+            continue;
+        }
         if is_named_sort(sorts, names, i, name) {
             return Found::Row(i);
         }

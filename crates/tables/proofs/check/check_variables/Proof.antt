@@ -1,8 +1,7 @@
 use Prim.Native.Nat.{_-_}
-use native.Mathlib.Omega.{arith}
 use Rattle.tables.specs.Right.{rightVariable, alone}
 use Rattle.tables.proofs.Answers.{and-no}
-use Rattle.tables.proofs.Tabled.{Sofar, sofar-start, sofar-wrong, sofar-again, sofar-next, sofar-end}
+use Rattle.tables.proofs.Tabled.{Sofar, sofar-start, sofar-wrong, sofar-next, sofar-end}
 use borrow.Author.Needs.{needs}
 use Rattle.tables.proofs.check.check_variables.Statement.{statement}
 use Rattle.tables.proofs.check.check_variables.Tie as tie
@@ -31,12 +30,6 @@ is-variable-requires c κs = search needs
 returns-2 : tie.Need-returns-2 Inv-loop μ-loop
 returns-2 c = sofar-wrong _ _ _ _ _ (c .before .before .before .loop .inv) (c .before .before .loop-test .taken) _ (c .before .is-variable .ensures) (c .if2 .taken)
 
-is-alone-requires : tie.Need-is-alone-requires Inv-loop μ-loop
-is-alone-requires c κs = let h = c .before .before .before .loop .inv .there in omega (arith, h)
-
-returns-3 : tie.Need-returns-3 Inv-loop μ-loop
-returns-3 c = sofar-again _ _ _ _ _ (c .before .before .before .before .before .loop .inv) (c .before .before .before .before .loop-test .taken) _ (c .before .before .before .is-variable .ensures) (c .before .before .if2 .left) _ (c .before .is-alone .ensures) (c .if3 .taken)
-
 add-i : tie.Need-add-i Inv-loop μ-loop
 add-i c = search needs
 
@@ -44,10 +37,13 @@ loop-less : tie.Need-loop-less Inv-loop μ-loop
 loop-less c = search needs
 
 loop-again : tie.Need-loop-again Inv-loop μ-loop
-loop-again c = sofar-next _ _ _ _ _ (c .before .before .before .before .before .loop .inv) (c .before .before .before .before .loop-test .taken) _ (c .before .before .before .is-variable .ensures) (c .before .before .if2 .left) _ (c .before .is-alone .ensures) (c .if3 .left)
+loop-again c = sofar-next _ _ _ _ _ (c .before .before .before .loop .inv) (c .before .before .loop-test .taken) _ (c .before .is-variable .ensures) (c .if2 .left)
 
-returns-4 : tie.Need-returns-4 Inv-loop μ-loop
-returns-4 c = sofar-end _ _ _ _ _ (c .before .loop .inv) (c .loop-test .left)
+are-alone-requires : tie.Need-are-alone-requires Inv-loop μ-loop
+are-alone-requires c κs = search needs
+
+returns-3 : tie.Need-returns-3 Inv-loop μ-loop
+returns-3 c = sofar-end _ _ _ _ _ (c .before .before .loop .inv) (c .before .loop-test .left) _ (c .are-alone .ensures)
 
 pub check-variables-spec : {M : Type 1} → statement M
 check-variables-spec =
@@ -61,9 +57,8 @@ check-variables-spec =
     loop-holds
     is-variable-requires
     returns-2
-    is-alone-requires
-    returns-3
     add-i
     loop-less
     loop-again
-    returns-4)
+    are-alone-requires
+    returns-3)

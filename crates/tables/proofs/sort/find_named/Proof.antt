@@ -5,6 +5,8 @@ use Rattle.tables.specs.Layout.{count}
 use Rattle.tables.specs.View.{isNamed}
 use Rattle.tables.specs.Search.{firstRow}
 use Rattle.tables.proofs.Searches.{first-here, first-later, first-none}
+use Rattle.tables.proofs.Glances.{other-sort}
+use borrow.Author.Tests.{not-true}
 use borrow.Author.Needs.{needs}
 use Rattle.tables.proofs.sort.find_named.Statement.{statement}
 use Rattle.tables.proofs.sort.find_named.Tie as tie
@@ -21,11 +23,8 @@ count-requires c κs = search needs
 loop-holds : tie.Need-loop-holds Inv-loop μ-loop
 loop-holds c = (c .count .ensures, refl)
 
-is-named-sort-requires : tie.Need-is-named-sort-requires Inv-loop μ-loop
-is-named-sort-requires c κs = search needs
-
-returns : tie.Need-returns Inv-loop μ-loop
-returns c = let h = c .before .before .before .loop .inv in sym (h .1 ∙ first-here _ _ _ (omega (arith, h .0)) (sym (c .before .is-named-sort .ensures) ∙ c .if1 .taken))
+may-be-named-requires : tie.Need-may-be-named-requires Inv-loop μ-loop
+may-be-named-requires c κs = search needs
 
 add-i : tie.Need-add-i Inv-loop μ-loop
 add-i c = search needs
@@ -34,7 +33,22 @@ loop-less : tie.Need-loop-less Inv-loop μ-loop
 loop-less c = search needs
 
 loop-again : tie.Need-loop-again Inv-loop μ-loop
-loop-again c = let h = c .before .before .before .loop .inv in (h .0, h .1 ∙ first-later _ _ _ (omega (arith, h .0)) (sym (c .before .is-named-sort .ensures) ∙ c .if1 .left))
+loop-again c = let a = c .before .before .before .before .before .before .before .before .args in let h = c .before .before .before .loop .inv in (h .0, h .1 ∙ first-later _ _ _ (omega (arith, h .0)) (other-sort (a .sorts .now) (a .names .now) (a .name .now) _ (c .before .may-be-named .ensures (not-true _ (c .if1 .taken)))))
+
+is-named-sort-requires : tie.Need-is-named-sort-requires Inv-loop μ-loop
+is-named-sort-requires c κs = search needs
+
+returns : tie.Need-returns Inv-loop μ-loop
+returns c = let h = c .before .before .before .before .before .loop .inv in sym (h .1 ∙ first-here _ _ _ (omega (arith, h .0)) (sym (c .before .is-named-sort .ensures) ∙ c .if2 .taken))
+
+add-i-2 : tie.Need-add-i-2 Inv-loop μ-loop
+add-i-2 c = search needs
+
+loop-less-2 : tie.Need-loop-less-2 Inv-loop μ-loop
+loop-less-2 c = search needs
+
+loop-again-2 : tie.Need-loop-again-2 Inv-loop μ-loop
+loop-again-2 c = let h = c .before .before .before .before .before .loop .inv in (h .0, h .1 ∙ first-later _ _ _ (omega (arith, h .0)) (sym (c .before .is-named-sort .ensures) ∙ c .if2 .left))
 
 returns-2 : tie.Need-returns-2 Inv-loop μ-loop
 returns-2 c = let h = c .before .loop .inv in sym (h .1 ∙ first-none _ _ _ (omega (arith, h .0)))
@@ -47,9 +61,13 @@ find-named-spec =
     μ-loop
     count-requires
     loop-holds
-    is-named-sort-requires
-    returns
+    may-be-named-requires
     add-i
     loop-less
     loop-again
+    is-named-sort-requires
+    returns
+    add-i-2
+    loop-less-2
+    loop-again-2
     returns-2)
