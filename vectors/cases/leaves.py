@@ -98,7 +98,8 @@ def signed(number):
 
 
 def ordered(left, right):
-    return "less" if left < right else "more" if right < left else "same"
+    """The first number is handed on behind the answer."""
+    return f"{'less' if left < right else 'more' if right < left else 'same'} {left:032x}"
 
 
 def in_room(raw, room):

@@ -20,19 +20,24 @@ pub fn yes_or_no(answer: bool, line: &mut [u8]) {
     }
 }
 
+// The pair that is handed on is shown behind the word.
 pub fn order(answer: Order, line: &mut [u8]) {
     match answer {
-        Order::Less => word(b"less", line),
-        Order::Same => word(b"same", line),
-        Order::More => word(b"more", line),
+        Order::Less(number) => handed(b"less ", number, line),
+        Order::Same(number) => handed(b"same ", number, line),
+        Order::More(number) => handed(b"more ", number, line),
     }
 }
 
-pub fn pair(answer: Pair, line: &mut [u8]) {
-    let name = replay::put(b"number=", line, 0);
-    let high = replay::put_word(answer.high, line, name);
-    let end = replay::put_word(answer.low, line, high);
+fn handed(name: &[u8], number: Pair, line: &mut [u8]) {
+    let start = replay::put(name, line, 0);
+    let high = replay::put_word(number.high, line, start);
+    let end = replay::put_word(number.low, line, high);
     replay::finish(line, end);
+}
+
+pub fn pair(answer: Pair, line: &mut [u8]) {
+    handed(b"number=", answer, line);
 }
 
 fn refusal(why: Refusal, line: &mut [u8]) {

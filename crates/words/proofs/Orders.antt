@@ -7,19 +7,20 @@ use native.Mathlib.Omega.{arith}
 use borrow.Author.Tests.{lt-ltb, le-ltb}
 use Rattle.words.specs.declared.pair.Order.{Order}
 use Rattle.words.specs.declared.pair.Order.the-variants.{Less, Same, More}
-use Rattle.words.specs.Pair.{ordered}
+use Rattle.words.specs.declared.pair.Pair.{Pair}
+use Rattle.words.specs.Pair.{value, ordered}
 
-pub ordered-less : (m n : ℕ) → m < n → Less ≡ ordered m n
-ordered-less m n h = rw (lt-ltb m n h)
+pub ordered-less : (p : Pair) (n : ℕ) → value p < n → Less p ≡ ordered p n
+ordered-less p n h = rw (lt-ltb (value p) n h)
 
-pub ordered-more : (m n : ℕ) → n < m → More ≡ ordered m n
-ordered-more m n h = let k : n ≤ m = omega arith in rw (le-ltb m n k) (rw (lt-ltb n m h))
+pub ordered-more : (p : Pair) (n : ℕ) → n < value p → More p ≡ ordered p n
+ordered-more p n h = let k : n ≤ value p = omega arith in rw (le-ltb (value p) n k) (rw (lt-ltb n (value p) h))
 
-pub ordered-same : (m n : ℕ) → m ≡ n → Same ≡ ordered m n
-ordered-same m n h =
-    let k : n ≤ m = omega arith in
-    let l : m ≤ n = omega arith in
-    rw (le-ltb m n k) (rw (le-ltb n m l))
+pub ordered-same : (p : Pair) (n : ℕ) → value p ≡ n → Same p ≡ ordered p n
+ordered-same p n h =
+    let k : n ≤ value p = omega arith in
+    let l : value p ≤ n = omega arith in
+    rw (le-ltb (value p) n k) (rw (le-ltb n (value p) l))
 
 -- pairs by their high words first
 module _ (l h m k : ℕ) where

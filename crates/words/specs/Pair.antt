@@ -18,6 +18,6 @@ pairOf n = record { low = n % 2 ^ 64; high = n / 2 ^ 64 }
 unfoldable pub grown : ℕ → Grown
 grown n = cond (ltb n (2 ^ 128)) (Fit (pairOf n)) Over
 
--- the first number against the second, without signs
-abbrev pub ordered : ℕ → ℕ → Order
-ordered m n = cond (ltb m n) Less (cond (ltb n m) More Same)
+-- the first number against the second, without signs, and handed on
+abbrev pub ordered : Pair → ℕ → Order
+ordered p n = cond (ltb (value p) n) (Less p) (cond (ltb n (value p)) (More p) (Same p))

@@ -19,9 +19,9 @@ pub enum Grown {
 }
 
 pub enum Order {
-    Less,
-    Same,
-    More,
+    Less(Pair),
+    Same(Pair),
+    More(Pair),
 }
 
 // A word whose sign bit was looked at: with ones from that bit on, or as it was.
@@ -91,22 +91,23 @@ impl Pair {
         }
     }
 
+    // Less, same or more without signs; the number is handed on in the answer, as in `add_digit`'s.
     pub fn compare(self, other: Pair) -> Order
-        ensures { λ r. ⌜ r ≡ ordered (value self) (value other) ⌝ }
+        ensures { λ r. ⌜ r ≡ ordered self (value other) ⌝ }
     {
         if self.high < other.high {
-            return Order::Less;
+            return Order::Less(self);
         }
         if other.high < self.high {
-            return Order::More;
+            return Order::More(self);
         }
         if self.low < other.low {
-            return Order::Less;
+            return Order::Less(self);
         }
         if other.low < self.low {
-            return Order::More;
+            return Order::More(self);
         }
-        Order::Same
+        Order::Same(self)
     }
 
     // The low word read as signed: what Decimal, Datetime and Duration hold.
