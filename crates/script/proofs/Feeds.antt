@@ -13,8 +13,9 @@ use borrow.Author.Tests.{eqb-true}
 use Rattle.ground.specs.Bytes.{bytes}
 use Rattle.ground.specs.Lists.{joined}
 use Rattle.ground.proofs.Tests.{by-test}
-use Rattle.script.specs.Parts.{paired}
-use Rattle.script.specs.Line.{list, command, spaced, pair, setLogic, setOption, comment, assert, defineFun, declareConst, declareFun, indent, constructorList, isEmpty, parametric, withParameters, datatypeLine, declareDatatype}
+use Rattle.parts.specs.Parts.{paired}
+use Rattle.parts.specs.Texts.{list, spaced, pair}
+use Rattle.script.specs.Line.{command, setLogic, setOption, comment, assert, defineFun, declareConst, declareFun, indent, constructorList, isEmpty, parametric, withParameters, datatypeLine, declareDatatype}
 use Rattle.script.specs.Feeds.{feeds, feedsIn}
 
 feeds-append : (a b : List ℕ) → feeds (a ++ b) ≡ feeds a + feeds b

@@ -1,23 +1,22 @@
 -- How long the pieces of a line are together.
 -- Assumes nothing.
 use mathlib.Core.Path.{_≡_, refl, sym, ap, _∙_}
-use mathlib.Core.List.{List, [], _∷_, _++_}
+use mathlib.Core.List.{List, [], _∷_, _++_, map}
 use Prim.Native.Nat.{ℕ, _+_}
 use Prim.Native.String.{String}
 use native.Mathlib.Omega.{arith}
-use lib.ListN.{length, length-append}
+use lib.ListN.{length}
 use lib.Dec.{eqb}
 use borrow.Author.Tests.{eq-eqb, ne-eqb}
 use mathlib.Core.Bool.{Bool, true, false, cond}
 use Rattle.ground.specs.Bytes.{bytes}
 use Rattle.ground.specs.Lists.{joined}
-use Rattle.script.specs.Parts.{paired}
-use Rattle.script.specs.Line.{pair, defineFun, declareFun, indent, constructorList, isEmpty, parametric, withParameters, datatypeLine, declareDatatype}
+use Rattle.parts.specs.Parts.{paired}
+use Rattle.parts.specs.Texts.{pair, spaced}
+use Rattle.parts.proofs.Sizes.{long-then}
+use Rattle.parts.proofs.Spaces.{length-spaced}
+use Rattle.script.specs.Line.{comment, defineFun, declareFun, indent, constructorList, isEmpty, parametric, withParameters, datatypeLine, declareDatatype}
 use Rattle.script.proofs.Lines.{define-fun-line, declare-fun-line, bare-line, parametric-line}
-
--- a part, and what comes behind it
-pub long-then : (a b : List ℕ) (n : ℕ) → length b ≡ n → length (a ++ b) ≡ length a + n
-long-then a b n h = length-append a b ∙ ap (λ (k : ℕ). length a + k) h
 
 pub one-long : (head part : List ℕ) → length head + length part + 2 ≡ length (head ++ (part ++ bytes ")\n"))
 one-long head part = omega (arith, long-then head (part ++ bytes ")\n") (length part + 2) (long-then part (bytes ")\n") 2 refl))
@@ -30,6 +29,10 @@ two-long head first second =
           (long-then first (bytes " " ++ (second ++ bytes ")\n")) (1 + (length second + 2))
           (long-then (bytes " ") (second ++ bytes ")\n") (length second + 2) (long-then second (bytes ")\n") 2 refl))),
     )
+
+pub comment-long : (text : List ℕ) → length text + 3 ≡ length (comment text)
+unfolding comment
+comment-long text = omega (arith, length-spaced text, long-then (bytes "; ") (map spaced text ++ bytes "\n") (length (map spaced text) + 1) (long-then (map spaced text) (bytes "\n") 1 refl))
 
 pub declare-fun-long : (name : List ℕ) (arguments : List (List ℕ)) (sort : List ℕ) (inner : ℕ) → inner ≡ length (joined (bytes " ") arguments)
     → length name + inner + length sort + 19 ≡ length (declareFun name arguments sort)

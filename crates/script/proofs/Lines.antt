@@ -2,13 +2,14 @@
 -- Assumes nothing.
 use mathlib.Core.Path.{_≡_, refl, sym, ap, _∙_}
 use mathlib.Core.Bool.{true, false}
-use mathlib.Core.List.{List, [], _∷_, _++_, append-assoc}
+use mathlib.Core.List.{List, [], _∷_, _++_, map, append-assoc}
 use Prim.Native.Nat.{ℕ}
 use Prim.Native.String.{String}
 use Rattle.ground.specs.Bytes.{bytes}
 use Rattle.ground.specs.Lists.{joined}
-use Rattle.script.specs.Parts.{paired}
-use Rattle.script.specs.Line.{list, pair, setLogic, setOption, assert, defineFun, declareConst, declareFun, indent, constructorList, isEmpty, parametric, withParameters, datatypeLine, declareDatatype, checkSat, getModel, reset, exit}
+use Rattle.parts.specs.Parts.{paired}
+use Rattle.parts.specs.Texts.{list, pair, spaced}
+use Rattle.script.specs.Line.{setLogic, setOption, comment, assert, defineFun, declareConst, declareFun, indent, constructorList, isEmpty, parametric, withParameters, datatypeLine, declareDatatype, checkSat, getModel, reset, exit}
 
 pub check-sat-line : bytes "(check-sat)\n" ≡ checkSat
 unfolding checkSat joined
@@ -25,6 +26,10 @@ reset-line = refl
 pub exit-line : bytes "(exit)\n" ≡ exit
 unfolding exit joined
 exit-line = refl
+
+pub comment-line : (text : List ℕ) → bytes "; " ++ (map spaced text ++ bytes "\n") ≡ comment text
+unfolding comment
+comment-line text = refl
 
 -- the bracket and the line feed behind the last part
 close-one : (a : List ℕ) → a ++ bytes ")\n" ≡ a ++ bytes ")" ++ bytes "\n"

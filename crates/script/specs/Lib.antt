@@ -1,4 +1,3 @@
-pub mod Parts
 pub mod Line
 pub mod Script
 pub mod Feeds

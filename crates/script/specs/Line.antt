@@ -3,14 +3,10 @@ use mathlib.Core.Bool.{Bool, true, false, cond}
 use mathlib.Core.List.{List, [], _∷_, _++_, map}
 use Prim.Native.Nat.{ℕ}
 use Prim.Native.String.{String}
-use lib.Dec.{eqb}
 use Rattle.ground.specs.Bytes.{bytes}
 use Rattle.ground.specs.Lists.{joined}
-use Rattle.script.specs.Parts.{paired}
-
--- parts in brackets, a space between two
-abbrev pub list : List (List ℕ) → List ℕ
-list parts = bytes "(" ++ (joined (bytes " ") parts ++ bytes ")")
+use Rattle.parts.specs.Parts.{paired}
+use Rattle.parts.specs.Texts.{list, pair, spaced}
 
 -- a command and the 0A that ends its line
 abbrev pub command : List (List ℕ) → List ℕ
@@ -23,17 +19,11 @@ unfoldable pub setOption : List ℕ → List ℕ → List ℕ
 setOption option value = command (bytes "set-option" ∷ (bytes ":" ++ option) ∷ value ∷ [])
 
 -- a comment stays on its line
-abbrev pub spaced : ℕ → ℕ
-spaced byte = cond (eqb byte 0x0A) 0x20 byte
-
 unfoldable pub comment : List ℕ → List ℕ
 comment text = bytes "; " ++ (map spaced text ++ bytes "\n")
 
 unfoldable pub assert : List ℕ → List ℕ
 assert term = command (bytes "assert" ∷ term ∷ [])
-
-abbrev pub pair : List ℕ → List ℕ → List ℕ
-pair name sort = list (name ∷ sort ∷ [])
 
 -- the arguments are pairs of a name and a sort
 unfoldable pub defineFun : List ℕ → List (List ℕ) → List ℕ → List ℕ → List ℕ

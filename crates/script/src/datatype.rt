@@ -1,11 +1,11 @@
 // The line that declares a datatype.
-use crate::ends::Ends;
-use crate::ends::check_ends;
-use crate::ends::exceeds;
-use crate::ends::joined_length;
-use crate::parts::put_joined;
 use lent::Written;
 use lent::put;
+use parts::Ends;
+use parts::check_ends;
+use parts::exceeds;
+use parts::joined_length;
+use parts::put_joined;
 use refusals::Refusal;
 ghost use mathlib.Core.Path.{_≡_};
 ghost use mathlib.Core.Bool.{true, cond, _&&_};
@@ -17,7 +17,7 @@ ghost use Rattle.ground.specs.Bytes.{bytes};
 ghost use Rattle.ground.specs.Lists.{joined};
 ghost use Rattle.lent.specs.Left.{Leaves};
 ghost use Rattle.lent.specs.Put.{Offers};
-ghost use Rattle.script.specs.Parts.{parts, endsRight};
+ghost use Rattle.parts.specs.Parts.{parts, endsRight};
 ghost use Rattle.script.specs.Line.{constructorList, parametric, datatypeLine, declareDatatype};
 ghost use Rattle.script.specs.Script.{scripted};
 

@@ -1,21 +1,21 @@
 // Lines that declare or define a function.
-use crate::ends::Ends;
-use crate::ends::check_ends;
-use crate::ends::check_pairs;
-use crate::ends::exceeds;
-use crate::ends::joined_length;
-use crate::ends::pairs_length;
-use crate::parts::put_joined;
-use crate::parts::put_pairs;
 use lent::Written;
 use lent::put;
+use parts::Ends;
+use parts::check_ends;
+use parts::check_pairs;
+use parts::exceeds;
+use parts::joined_length;
+use parts::pairs_length;
+use parts::put_joined;
+use parts::put_pairs;
 use refusals::Refusal;
 ghost use mathlib.Core.Path.{_≡_};
 ghost use mathlib.Core.Bool.{true};
 ghost use mathlib.Core.List.{[], _∷_};
 ghost use Rattle.lent.specs.Left.{Leaves};
 ghost use Rattle.lent.specs.Put.{Offers};
-ghost use Rattle.script.specs.Parts.{parts, endsRight, pairsRight};
+ghost use Rattle.parts.specs.Parts.{parts, endsRight, pairsRight};
 ghost use Rattle.script.specs.Line.{defineFun, declareFun};
 ghost use Rattle.script.specs.Script.{scripted};
 

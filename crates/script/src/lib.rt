@@ -1,9 +1,7 @@
 // The lines of an SMT-LIB script, each written to the front of a lent buffer.
 mod datatype;
-mod ends;
 mod fixed;
 mod functions;
-mod parts;
 mod plain;
 mod remark;
 

@@ -1,7 +1,7 @@
 // Lines of one or two parts.
-use crate::ends::exceeds;
 use lent::Written;
 use lent::put;
+use parts::exceeds;
 use refusals::Refusal;
 ghost use mathlib.Core.Bool.{true};
 ghost use mathlib.Core.List.{[], _∷_, _++_};

@@ -1,4 +1,3 @@
-pub mod Codes
 pub mod ByKind
 pub mod Results
 pub mod Needs

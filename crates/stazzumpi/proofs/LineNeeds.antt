@@ -9,19 +9,21 @@ use lib.Dec.{leb, eqb}
 use lib.ListN.{length}
 use Rattle.ground.specs.Bytes.{bytes}
 use Rattle.ground.specs.Lists.{joined}
-use Rattle.ground.proofs.Tests.{by-test}
+use Rattle.ground.proofs.Tests.{by-test, both-parts}
 use Rattle.refusals.specs.declared.Refusal.the-variants.{OutRoom}
 use Rattle.lent.specs.Left.{writing}
-use Rattle.script.specs.Script.{inputLimit, tooLong, scripted}
-use Rattle.script.specs.Parts.{parts, paired, endsRight, pairsRight, lastFrom}
-use Rattle.script.specs.Line.{setLogic, setOption, spaced, comment, assert, pair, defineFun, declareConst, declareFun, indent, declareDatatype, checkSat, getModel, reset, exit}
-use Rattle.script.proofs.Scripts.{Short, all-short}
-use Rattle.script.proofs.Spaces.{length-spaced}
-use Rattle.script.proofs.Sizes.{joined-long, pairs-long, last-within, gap-small}
-use Rattle.script.proofs.Rises.{even-of}
+use Rattle.parts.specs.Limit.{inputLimit, tooLong}
+use Rattle.parts.specs.Parts.{parts, paired, endsRight, pairsRight, lastFrom}
+use Rattle.parts.specs.Texts.{spaced, pair}
+use Rattle.parts.proofs.Limits.{Short, all-short}
+use Rattle.parts.proofs.Spaces.{length-spaced}
+use Rattle.parts.proofs.Sizes.{long-then, joined-long, pairs-long, last-within, gap-small}
+use Rattle.parts.proofs.Rises.{even-of}
+use Rattle.script.specs.Script.{scripted}
+use Rattle.script.specs.Line.{setLogic, setOption, comment, assert, defineFun, declareConst, declareFun, indent, declareDatatype, checkSat, getModel, reset, exit}
 use Rattle.script.proofs.Lines.{check-sat-line, get-model-line, reset-line, exit-line, set-logic-line, assert-line, set-option-line, declare-const-line}
-use Rattle.script.proofs.Lengths.{long-then, one-long, two-long, declare-fun-long, define-fun-long, datatype-long}
-use Rattle.stazzumpi.specs.Yields.{written}
+use Rattle.script.proofs.Lengths.{one-long, two-long, declare-fun-long, define-fun-long, datatype-long}
+use Rattle.told.specs.Yields.{written}
 use Rattle.stazzumpi.proofs.Needs.{Small}
 
 abbrev Few : List ℕ → Type 0
@@ -79,10 +81,6 @@ pub comment-small : (a d : List ℕ) → Small (written (scripted (a ∷ []) tru
 comment-small a d = scripted-small _ _ _ _ (λ s r. comment-few a (s .0))
 
 -- lists of parts
-both : (a b : Bool) → (a && b) ≡ true → (a ≡ true) × (b ≡ true)
-both true b h = (refl, h)
-both false b h = let z : _≡_ {A = ℕ} 0 1 = cc in absurd (omega arith)
-
 joined-few : (separator string ends : List ℕ) → length separator ≤ 3 → length string ≤ inputLimit → length ends ≤ inputLimit → endsRight string ends ≡ true → length (joined separator (parts string ends)) ≤ 67108864
 joined-few separator string ends g s e r =
     omega (
@@ -94,7 +92,7 @@ joined-few separator string ends g s e r =
 
 pairs-few : (string ends : List ℕ) → length string ≤ inputLimit → length ends ≤ inputLimit → pairsRight string ends ≡ true → length (joined (bytes " ") (paired pair (parts string ends))) ≤ 67108864
 pairs-few string ends s e r =
-    let p = both (endsRight string ends) (eqb (length ends % 2) 0) r in
+    let p = both-parts (endsRight string ends) (eqb (length ends % 2) 0) r in
     omega (arith, pairs-long string ends (p .0) (even-of ends (p .1)), last-within (length string) 0 ends (omega arith) (p .0))
 
 pub declare-fun-small : (name string ends sort d : List ℕ)
@@ -140,7 +138,7 @@ pub declare-datatype-small : (name ps pe cs ce d : List ℕ)
 declare-datatype-small name ps pe cs ce d =
     scripted-small _ _ _ _
     (λ s r.
-    let b = both (endsRight ps pe) (endsRight cs ce) r in
+    let b = both-parts (endsRight ps pe) (endsRight cs ce) r in
     datatype-few name (parts ps pe) (parts cs ce) (s .0)
     (joined-few (bytes " ") ps pe (omega arith) (s .1 .0) (s .1 .1 .0) (b .0))
     (joined-few indent cs ce (omega arith) (s .1 .1 .1 .0) (s .1 .1 .1 .1 .0) (b .1)))

@@ -38,8 +38,8 @@ use Rattle.reader.proofs.Bounds.{accepted-small}
 use Rattle.tables.specs.declared.check.Checked.{Checked}
 use Rattle.tables.specs.Layout.{Lent}
 use Rattle.tables.specs.Check as tables
-use Rattle.stazzumpi.specs.Exports.{Yield, yields, refuses}
-use Rattle.stazzumpi.specs.Yields.{written, read, passed}
+use Rattle.told.specs.Tells.{Yield, yields, refuses}
+use Rattle.told.specs.Yields.{written, read, passed}
 
 abbrev pub Small : Yield → Type 0
 Small (yields ns) = Unit {0}

@@ -1,37 +1,32 @@
 -- What an exported call leaves, by the call that it exports; and that it can leave nothing else.
 -- Assumes nothing.
-use mathlib.Core.Path.{_≡_, refl, ap, ap₂, _∙_, subst}
+use mathlib.Core.Path.{_≡_, refl, ap, ap₂, subst}
 use mathlib.Core.List.{List, [], _∷_}
-use Prim.Native.Nat.{ℕ, _%_, _≤_, _<_}
+use Prim.Native.Nat.{ℕ, _≤_, _<_}
 use native.Mathlib.Omega.{arith}
 use lib.ListN.{length}
 use borrow.Author.Tests.{le-leb, lt-leb}
 use Rattle.ground.proofs.Tests.{one-result, by-order}
-use Rattle.refusals.specs.declared.Refusal.{Refusal}
 use Rattle.refusals.specs.declared.Refusal.the-variants.{OutRoom}
-use Rattle.refusals.specs.Number.{numberOf}
 use Rattle.lent.specs.declared.Written.{Written}
 use Rattle.lent.specs.Left as lent
 use Rattle.reader.specs.declared.read.Reading.{Reading}
 use Rattle.reader.specs.Read as reader
 use Rattle.arena_check.proofs.Answers.{one-check}
-use Rattle.stazzumpi.specs.Code.{codeOf}
 use Rattle.tables.specs.declared.find.Found.{Found}
+use Rattle.tables.specs.Layout.{Lent}
 use Rattle.tables.specs.Lookup.{FindsVariable, FindsFunction, FindsMember, FindsNamed}
 use Rattle.tables.proofs.One.{one-variable, one-function, one-member, one-named}
 use Rattle.tables_text.specs.Read.{Buffers}
 use Rattle.tables_text.proofs.Readings.{one-reading}
-use Rattle.stazzumpi.specs.Exports.{Yield, yields, refuses, Tells, Left, exported, Exports, Promises}
+use Rattle.listing.proofs.One.{one-listing}
+use Rattle.told.specs.Code.{codeOf}
+use Rattle.told.specs.Tells.{Yield, Tells}
+use Rattle.told.specs.Yields.{written, read}
+use Rattle.stazzumpi.specs.Exports.{Left, exported, Exports, Promises}
 use Rattle.stazzumpi.specs.Kind.{FindsKind}
-use Rattle.stazzumpi.specs.Yields.{written, writes, read, reads, ChecksOut, ReadsOut, foundRow, LooksUp}
-use Rattle.stazzumpi.proofs.Codes.{code-some, code-number}
+use Rattle.stazzumpi.specs.Outs.{writes, reads, ChecksOut, ReadsOut, LooksUp, ListsOut}
 use Rattle.stazzumpi.proofs.ByKind.{one-kind}
-
-pub tells-numbers : (yield : Yield) (ns told exit : List ℕ) → yield ≡ yields ns → exit ≡ lent.onto ns told → Tells yield told 0 exit
-tells-numbers yield ns told exit e f = rw e (record { word = refl; tells = f })
-
-pub tells-why : (yield : Yield) (why : Refusal) (told : List ℕ) (r : ℕ) → yield ≡ refuses why → r ≡ codeOf why → Tells yield told r told
-tells-why yield why told r e f = rw e (record { word = f; tells = refl })
 
 module _ (need : ℕ) (told : List ℕ) (buffers : List (List ℕ)) (left : Left) where
   pub exports-short : (r : ℕ) → length told < need → r ≡ codeOf (OutRoom need) → Exports told (exported need told buffers left) r told buffers
@@ -97,6 +92,9 @@ one-check-out {ws} {ts} x y =
 pub one-tables-read : {text told : List ℕ} {entry x y : Buffers} {r q : ℕ} {d e : List ℕ} → ReadsOut text entry told r d x → ReadsOut text entry told q e y → (r ≡ q) × (d ≡ e) × (x ≡ y)
 one-tables-read {text} {told} {entry} p q = one-promise (λ a b s t. one-reading text entry s t) p q
 
+pub one-listing-out : {l : Lent} {ws ts out told x y : List ℕ} {r q : ℕ} {d e : List ℕ} → ListsOut l ws ts out told r d x → ListsOut l ws ts out told q e y → (r ≡ q) × (d ≡ e) × (x ≡ y)
+one-listing-out {l} {ws} {ts} {out} {told} {x} {y} p q = one-promise (λ a b s t. one-listing l ws ts out a b x y s t) p q
+
 -- every lookup, by the law of the call that is exported
 pub one-lookup : {finds : Found → Type 0} {told : List ℕ} {r q : ℕ} {d e : List ℕ} → ((a b : Found) → finds a → finds b → a ≡ b)
     → LooksUp finds told r d → LooksUp finds told q e → (r ≡ q) × (d ≡ e)
@@ -120,20 +118,3 @@ module _ {told : List ℕ} {r q : ℕ} {d e : List ℕ} where
 
   pub one-sort-out : (sorts : List ℕ) (kind number : ℕ) → LooksUp (FindsKind sorts kind number) told r d → LooksUp (FindsKind sorts kind number) told q e → (r ≡ q) × (d ≡ e)
   one-sort-out sorts kind number x y = one-lookup (one-kind sorts kind number) x y
-
--- the numbers of a lookup tell a row from another, and from none
-pub row-told : (a b : Found) → foundRow a ≡ foundRow b → a ≡ b
-row-told (Found.Row i) (Found.Row j) e = let q : i ≡ j = cc in ap Found.Row q
-row-told (Found.Row i) Found.NoRow e = let z : _≡_ {A = ℕ} 1 0 = cc in absurd (omega arith)
-row-told Found.NoRow (Found.Row j) e = let z : _≡_ {A = ℕ} 0 1 = cc in absurd (omega arith)
-row-told Found.NoRow Found.NoRow e = refl
-
--- what a caller sees: 0 tells an acceptance and its numbers, and any other word a refusal by its number, with nothing told
-pub tells-accepted : (yield : Yield) (told exit : List ℕ) → Tells yield told 0 exit → (ns : List ℕ) × (yield ≡ yields ns) × (exit ≡ lent.onto ns told)
-tells-accepted (yields ns) told exit t = (ns, refl, t .tells)
-tells-accepted (refuses why) told exit t = absurd (omega (arith, code-some why, t .word))
-
-pub tells-refused : (yield : Yield) (told : List ℕ) (r : ℕ) (exit : List ℕ) → 0 < r → Tells yield told r exit
-    → (why : Refusal) × (yield ≡ refuses why) × (r % 256 ≡ numberOf why) × (exit ≡ told)
-tells-refused (yields ns) told r exit h t = absurd (omega (arith, t .word))
-tells-refused (refuses why) told r exit h t = (why, refl, ap (λ (n : ℕ). n % 256) (t .word) ∙ code-number why, t .tells)

@@ -9,8 +9,7 @@ use lib.Dec.{leb, ltb}
 use lib.ListN.{length, length-append}
 use borrow.Author.Tests.{leb-true}
 use Rattle.ground.specs.Lists.{all}
-use Rattle.ground.proofs.Tests.{by-order}
-use Rattle.utf8.proofs.Leads.{both-left, both-right}
+use Rattle.ground.proofs.Tests.{by-order, both-left, both-right}
 use Rattle.tables.specs.Sort.{Sort, bool, string, ext, bitVec, optionOf, setOf, entityOf, recordOf, Tables}
 use Rattle.tables.specs.Layout.{Lent}
 use Rattle.tables.specs.Rules.{fieldLimit, ownName, sortRight, sortsRight}
@@ -21,7 +20,7 @@ use Rattle.tables_text.specs.Words.{fieldsOf, allFields, variableWords, functio
 use Rattle.tables_text.specs.Read.{textLimit, Spells, Buffers, Left, fitted, Reads}
 use Rattle.tables_text.proofs.Parses.{table-long, sorts-long}
 use Rattle.tables_text.proofs.Readings.{by-spelling}
-use Rattle.stazzumpi.specs.Yields.{tablesRead}
+use Rattle.told.specs.Yields.{tablesRead}
 use Rattle.stazzumpi.proofs.Needs.{Small, by-cond}
 
 fields-few : (i : ℕ) (s : Sort) → sortRight i s ≡ true → length (fieldsOf s) ≤ fieldLimit

@@ -1,4 +1,3 @@
-pub mod Code
 pub mod Exports
 pub mod Kind
-pub mod Yields
+pub mod Outs

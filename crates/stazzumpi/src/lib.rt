@@ -1,5 +1,4 @@
 // What C and Rust link: every call answers one word, 0 or a refusal, and tells its numbers in a lent slice.
-mod answer;
 mod lines;
 mod lookups;
 mod models;

@@ -1,15 +1,15 @@
 // The lines of a script, exported: each tells the length of its line.
-use crate::answer::code;
-use crate::answer::tell_written;
 use refusals::Refusal;
+use told::code;
+use told::tell_written;
 ghost use mathlib.Core.Bool.{true, _&&_};
 ghost use mathlib.Core.List.{[], _∷_};
 ghost use Rattle.refusals.specs.declared.Refusal.{Refusal};
 ghost use Rattle.lent.specs.Left.{writing};
-ghost use Rattle.script.specs.Parts.{parts, endsRight, pairsRight};
+ghost use Rattle.parts.specs.Parts.{parts, endsRight, pairsRight};
 ghost use Rattle.script.specs.Line.{setLogic, setOption, comment, assert, defineFun, declareConst, declareFun, declareDatatype, checkSat, getModel, reset, exit};
 ghost use Rattle.script.specs.Script.{scripted};
-ghost use Rattle.stazzumpi.specs.Yields.{WritesOut};
+ghost use Rattle.stazzumpi.specs.Outs.{WritesOut};
 
 #[no_mangle]
 pub extern "C" fn stazzumpi_set_logic(logic: &[u8], out: &mut [u8], told: &mut [u64]) -> u64

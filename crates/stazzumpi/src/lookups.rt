@@ -1,31 +1,12 @@
 // The lookups of the tables, exported: each tells 1 and the row that it found, or 0 and 0.
-use crate::answer::code;
-use crate::answer::tell;
 use refusals::Refusal;
 use tables::Found;
 use tables::Wanted;
-ghost use Prim.Native.Nat.{_≤_};
-ghost use lib.ListN.{length};
+use told::code;
+use told::tell_found;
 ghost use Rattle.tables.specs.Lookup.{FindsVariable, FindsFunction, FindsMember, FindsNamed};
-ghost use Rattle.stazzumpi.specs.Exports.{Tells};
 ghost use Rattle.stazzumpi.specs.Kind.{FindsKind};
-ghost use Rattle.stazzumpi.specs.Yields.{foundRow, LooksUp};
-
-fn tell_found(answer: Found, told: &mut [u64]) -> u64
-    requires { ⌜ 2 ≤ length (now told) ⌝ }
-    ensures { λ r. ⌜ Tells (foundRow answer) (now (told .entry)) r (now (told .exit)) ⌝ }
-{
-    match answer {
-        Found::Row(row) => {
-            tell(&[1, row as u64], told);
-            0
-        }
-        Found::NoRow => {
-            tell(&[0, 0], told);
-            0
-        }
-    }
-}
+ghost use Rattle.stazzumpi.specs.Outs.{LooksUp};
 
 #[no_mangle]
 pub extern "C" fn stazzumpi_find_variable(

@@ -1,8 +1,8 @@
 // The listing of a model, exported.
-use crate::answer::code;
-use crate::answer::tell_written;
 use refusals::Refusal;
-ghost use Rattle.stazzumpi.specs.Yields.{ListsOut};
+use told::code;
+use told::tell_written;
+ghost use Rattle.stazzumpi.specs.Outs.{ListsOut};
 
 // Tells how long the listing is.
 #[no_mangle]

@@ -1,15 +1,13 @@
 // The check of 25 and the reading of the tables' text, exported.
-use crate::answer::code;
-use crate::answer::tell;
 use refusals::Refusal;
 use tables::Checked;
-use tables_text::TablesRead;
+use told::code;
+use told::tell_tables;
 ghost use mathlib.Core.Path.{_≡_};
-ghost use Prim.Native.Nat.{_≤_};
-ghost use lib.ListN.{length};
 ghost use Rattle.tables.specs.Check.{checked};
-ghost use Rattle.stazzumpi.specs.Exports.{wordOf, Tells};
-ghost use Rattle.stazzumpi.specs.Yields.{passed, tablesRead, ReadsOut};
+ghost use Rattle.told.specs.Tells.{wordOf};
+ghost use Rattle.told.specs.Yields.{passed};
+ghost use Rattle.stazzumpi.specs.Outs.{ReadsOut};
 
 // Tells nothing but that the tables break no rule.
 #[no_mangle]
@@ -27,34 +25,6 @@ pub extern "C" fn stazzumpi_check_tables(
     match answer {
         Checked::Passed => 0,
         Checked::Refused(why) => code(why),
-    }
-}
-
-fn tell_tables(answer: TablesRead, told: &mut [u64]) -> u64
-    requires { ⌜ 5 ≤ length (now told) ⌝ }
-    ensures { λ r. ⌜ Tells (tablesRead answer) (now (told .entry)) r (now (told .exit)) ⌝ }
-{
-    match answer {
-        TablesRead::Read {
-            sorts,
-            fields,
-            variables,
-            functions,
-            members,
-        } => {
-            tell(
-                &[
-                    sorts as u64,
-                    fields as u64,
-                    variables as u64,
-                    functions as u64,
-                    members as u64,
-                ],
-                told,
-            );
-            0
-        }
-        TablesRead::Refused(why) => code(why),
     }
 }
 

@@ -1,9 +1,9 @@
 // decode_string, exported.
-use crate::answer::code;
-use crate::answer::tell_written;
 use refusals::Refusal;
+use told::code;
+use told::tell_written;
 ghost use Rattle.strings.specs.Text.{decoded};
-ghost use Rattle.stazzumpi.specs.Yields.{WritesOut};
+ghost use Rattle.stazzumpi.specs.Outs.{WritesOut};
 
 // Tells the length of the text.
 #[no_mangle]

@@ -1,28 +1,12 @@
 // The reader and the check of 27, exported.
-use crate::answer::code;
-use crate::answer::tell;
-use arena_check::Checked;
-use reader::Reading;
 use refusals::Refusal;
+use told::code;
+use told::tell_checked;
+use told::tell_reading;
 ghost use mathlib.Core.List.{[], _∷_};
-ghost use Prim.Native.Nat.{_≤_};
-ghost use lib.ListN.{length};
 ghost use Rattle.reader.specs.Read.{reading};
-ghost use Rattle.stazzumpi.specs.Exports.{Tells, Exports, exported};
-ghost use Rattle.stazzumpi.specs.Yields.{read, reads, checked, ChecksOut};
-
-fn tell_reading(answer: Reading, told: &mut [u64]) -> u64
-    requires { ⌜ 3 ≤ length (now told) ⌝ }
-    ensures { λ r. ⌜ Tells (read answer) (now (told .entry)) r (now (told .exit)) ⌝ }
-{
-    match answer {
-        Reading::Read { nodes, text, depth } => {
-            tell(&[nodes as u64, text as u64, depth as u64], told);
-            0
-        }
-        Reading::Refused(why) => code(why),
-    }
-}
+ghost use Rattle.stazzumpi.specs.Exports.{Exports, exported};
+ghost use Rattle.stazzumpi.specs.Outs.{reads, ChecksOut};
 
 // Tells how many nodes, text bytes and open brackets the tree took.
 #[no_mangle]
@@ -40,19 +24,6 @@ pub extern "C" fn stazzumpi_parse_sexpr(
     }
     let answer = reader::parse_sexpr(input, nodes, text, stack);
     tell_reading(answer, told)
-}
-
-fn tell_checked(answer: Checked, told: &mut [u64]) -> u64
-    requires { ⌜ 2 ≤ length (now told) ⌝ }
-    ensures { λ r. ⌜ Tells (checked answer) (now (told .entry)) r (now (told .exit)) ⌝ }
-{
-    match answer {
-        Checked::Tree { nodes, text } => {
-            tell(&[nodes as u64, text as u64], told);
-            0
-        }
-        Checked::Refused(why) => code(why),
-    }
 }
 
 // Tells how many nodes and text bytes the tree takes.

@@ -1,5 +1,5 @@
 use Rattle.lent.proofs.Offers.{offers-then, offers-as}
-use Rattle.script.specs.Parts.{parts}
+use Rattle.parts.specs.Parts.{parts}
 use Rattle.script.proofs.Lines.{bare-line}
 use borrow.Author.Needs.{needs}
 use Rattle.script.proofs.datatype.put_bare.Statement.{statement}
@@ -7,7 +7,7 @@ use Rattle.script.proofs.datatype.put_bare.Tie as tie
 use Rattle.script.proofs.datatype.put_bare.Reads as reads
 use Rattle.script.proofs.datatype.put_bare.Lts as lts
 use Rattle.lent.proofs.put.Reads as put-reads
-use Rattle.script.proofs.parts.put_joined.Reads as put-joined-reads
+use Rattle.parts.proofs.put_joined.Reads as put-joined-reads
 
 -- src/datatype.rt:39:19
 slice-aggregate-put : tie.Need-slice-aggregate-put

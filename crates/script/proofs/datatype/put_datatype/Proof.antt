@@ -1,6 +1,6 @@
 use native.Mathlib.Omega.{arith}
 use Rattle.lent.proofs.Offers.{offers-as}
-use Rattle.script.specs.Parts.{parts}
+use Rattle.parts.specs.Parts.{parts}
 use Rattle.script.proofs.Lengths.{datatype-bare, datatype-parametric}
 use borrow.Author.Needs.{needs}
 use Rattle.script.proofs.datatype.put_datatype.Statement.{statement}

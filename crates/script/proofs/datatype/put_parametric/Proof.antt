@@ -1,5 +1,5 @@
 use Rattle.lent.proofs.Offers.{offers-then, offers-as}
-use Rattle.script.specs.Parts.{parts}
+use Rattle.parts.specs.Parts.{parts}
 use Rattle.script.proofs.Lines.{parametric-line}
 use borrow.Author.Needs.{needs}
 use Rattle.script.proofs.datatype.put_parametric.Statement.{statement}
@@ -7,7 +7,7 @@ use Rattle.script.proofs.datatype.put_parametric.Tie as tie
 use Rattle.script.proofs.datatype.put_parametric.Reads as reads
 use Rattle.script.proofs.datatype.put_parametric.Lts as lts
 use Rattle.lent.proofs.put.Reads as put-reads
-use Rattle.script.proofs.parts.put_joined.Reads as put-joined-reads
+use Rattle.parts.proofs.put_joined.Reads as put-joined-reads
 
 -- src/datatype.rt:58:19
 slice-aggregate-put : tie.Need-slice-aggregate-put

@@ -8,19 +8,20 @@ use lib.Dec.{eqb}
 use lib.ListN.{length}
 use Rattle.ground.specs.Bytes.{bytes}
 use Rattle.lent.proofs.Offers.{offers-then, offers-as}
-use Rattle.script.specs.Parts.{parts, rise, lastFrom, endsRight}
-use Rattle.script.proofs.Scripts.{none-long, exceeds-one, all-short, scripted-long, scripted-bad, scripted-short, scripted-line}
-use Rattle.script.proofs.Rises.{risen-rise, risen-fall}
-use Rattle.script.proofs.Sizes.{joined-long, last-within}
+use Rattle.parts.specs.Parts.{parts, rise, lastFrom, endsRight}
+use Rattle.parts.proofs.Limits.{none-long, exceeds-one, all-short}
+use Rattle.script.proofs.Scripts.{scripted-long, scripted-bad, scripted-short, scripted-line}
+use Rattle.parts.proofs.Rises.{risen-rise, risen-fall}
+use Rattle.parts.proofs.Sizes.{joined-long, last-within}
 use Rattle.script.proofs.Lengths.{declare-fun-long}
 use borrow.Author.Needs.{needs}
 use Rattle.script.proofs.functions.declare_fun.Statement.{statement}
 use Rattle.script.proofs.functions.declare_fun.Tie as tie
 use Rattle.script.proofs.functions.declare_fun.Reads as reads
 use Rattle.script.proofs.functions.declare_fun.Lts as lts
-use Rattle.script.proofs.ends.check_ends.Reads as check-ends-reads
-use Rattle.script.proofs.ends.exceeds.Reads as exceeds-reads
-use Rattle.script.proofs.ends.joined_length.Reads as joined-length-reads
+use Rattle.parts.proofs.check_ends.Reads as check-ends-reads
+use Rattle.parts.proofs.exceeds.Reads as exceeds-reads
+use Rattle.parts.proofs.joined_length.Reads as joined-length-reads
 use Rattle.script.proofs.functions.put_declare_fun.Reads as put-declare-fun-reads
 
 -- src/functions.rt:103:9

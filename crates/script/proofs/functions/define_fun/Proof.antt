@@ -8,19 +8,21 @@ use lib.Dec.{eqb}
 use lib.ListN.{length}
 use Rattle.ground.specs.Bytes.{bytes}
 use Rattle.lent.proofs.Offers.{offers-then, offers-as}
-use Rattle.script.specs.Parts.{parts, rise, lastFrom, endsRight}
-use Rattle.script.proofs.Scripts.{none-long, exceeds-one, all-short, scripted-long, scripted-bad, scripted-short, scripted-line}
-use Rattle.script.proofs.Rises.{risen-rise, risen-fall, both-right, even-of}
-use Rattle.script.proofs.Sizes.{pairs-long, last-within}
+use Rattle.parts.specs.Parts.{parts, rise, lastFrom, endsRight}
+use Rattle.parts.proofs.Limits.{none-long, exceeds-one, all-short}
+use Rattle.script.proofs.Scripts.{scripted-long, scripted-bad, scripted-short, scripted-line}
+use Rattle.ground.proofs.Tests.{both-parts}
+use Rattle.parts.proofs.Rises.{risen-rise, risen-fall, even-of}
+use Rattle.parts.proofs.Sizes.{pairs-long, last-within}
 use Rattle.script.proofs.Lengths.{define-fun-long}
 use borrow.Author.Needs.{needs}
 use Rattle.script.proofs.functions.define_fun.Statement.{statement}
 use Rattle.script.proofs.functions.define_fun.Tie as tie
 use Rattle.script.proofs.functions.define_fun.Reads as reads
 use Rattle.script.proofs.functions.define_fun.Lts as lts
-use Rattle.script.proofs.ends.check_pairs.Reads as check-pairs-reads
-use Rattle.script.proofs.ends.exceeds.Reads as exceeds-reads
-use Rattle.script.proofs.ends.pairs_length.Reads as pairs-length-reads
+use Rattle.parts.proofs.check_pairs.Reads as check-pairs-reads
+use Rattle.parts.proofs.exceeds.Reads as exceeds-reads
+use Rattle.parts.proofs.pairs_length.Reads as pairs-length-reads
 use Rattle.script.proofs.functions.put_define_fun.Reads as put-define-fun-reads
 
 -- src/functions.rt:55:9
@@ -65,31 +67,31 @@ returns-2 c = scripted-bad _ _ _ _ (sym (exceeds-one (c .before .before .before 
 
 -- src/functions.rt:66:9
 pairs-length-requires : tie.Need-pairs-length-requires
-pairs-length-requires c κs = let s = all-short (c .before .before .before .before .before .before .before .before .before .before .before .before .before .before .before .before .args .name .now ∷ c .before .before .before .before .before .before .before .before .before .before .before .before .before .before .before .before .args .string .now ∷ c .before .before .before .before .before .before .before .before .before .before .before .before .before .before .before .before .args .ends .now ∷ c .before .before .before .before .before .before .before .before .before .before .before .before .before .before .before .before .args .sort .now ∷ c .before .before .before .before .before .before .before .before .before .before .before .before .before .before .before .before .args .body .now ∷ []) (sym (exceeds-one (c .before .before .before .before .before .before .before .before .before .before .before .before .before .before .before .before .args .name .now) (c .before .before .before .before .before .before .before .before .before .before .before .before .before .before .before .before .args .string .now ∷ c .before .before .before .before .before .before .before .before .before .before .before .before .before .before .before .before .args .ends .now ∷ c .before .before .before .before .before .before .before .before .before .before .before .before .before .before .before .before .args .sort .now ∷ c .before .before .before .before .before .before .before .before .before .before .before .before .before .before .before .before .args .body .now ∷ []) (c .before .before .before .before .before .exceeds5 .ensures) (exceeds-one (c .before .before .before .before .before .before .before .before .before .before .before .before .before .before .before .before .args .string .now) (c .before .before .before .before .before .before .before .before .before .before .before .before .before .before .before .before .args .ends .now ∷ c .before .before .before .before .before .before .before .before .before .before .before .before .before .before .before .before .args .sort .now ∷ c .before .before .before .before .before .before .before .before .before .before .before .before .before .before .before .before .args .body .now ∷ []) (c .before .before .before .before .before .before .exceeds4 .ensures) (exceeds-one (c .before .before .before .before .before .before .before .before .before .before .before .before .before .before .before .before .args .ends .now) (c .before .before .before .before .before .before .before .before .before .before .before .before .before .before .before .before .args .sort .now ∷ c .before .before .before .before .before .before .before .before .before .before .before .before .before .before .before .before .args .body .now ∷ []) (c .before .before .before .before .before .before .before .exceeds3 .ensures) (exceeds-one (c .before .before .before .before .before .before .before .before .before .before .before .before .before .before .before .before .args .sort .now) (c .before .before .before .before .before .before .before .before .before .before .before .before .before .before .before .before .args .body .now ∷ []) (c .before .before .before .before .before .before .before .before .exceeds2 .ensures) (exceeds-one (c .before .before .before .before .before .before .before .before .before .before .before .before .before .before .before .before .args .body .now) ([]) (c .before .before .before .before .before .before .before .before .before .exceeds .ensures) (sym none-long)))))) ∙ c .before .before .before .before .if1 .left) in (omega (arith, s .1 .0, (risen-rise ((rise 0 (length (c .before .before .before .before .before .before .before .before .before .before .before .before .before .before .before .before .args .string .now)) (c .before .before .before .before .before .before .before .before .before .before .before .before .before .before .before .before .args .ends .now)) && (eqb (length (c .before .before .before .before .before .before .before .before .before .before .before .before .before .before .before .before .args .ends .now) % 2) 0)) (lastFrom 0 (c .before .before .before .before .before .before .before .before .before .before .before .before .before .before .before .before .args .ends .now)) _ (sym (c .before .found .given .1) ∙ c .before .before .before .check-pairs .ensures)) .1, last-within (length (c .before .before .before .before .before .before .before .before .before .before .before .before .before .before .before .before .args .string .now)) 0 (c .before .before .before .before .before .before .before .before .before .before .before .before .before .before .before .before .args .ends .now) (omega arith) ((both-right (rise 0 (length (c .before .before .before .before .before .before .before .before .before .before .before .before .before .before .before .before .args .string .now)) (c .before .before .before .before .before .before .before .before .before .before .before .before .before .before .before .before .args .ends .now)) (eqb (length (c .before .before .before .before .before .before .before .before .before .before .before .before .before .before .before .before .args .ends .now) % 2) 0) ((risen-rise ((rise 0 (length (c .before .before .before .before .before .before .before .before .before .before .before .before .before .before .before .before .args .string .now)) (c .before .before .before .before .before .before .before .before .before .before .before .before .before .before .before .before .args .ends .now)) && (eqb (length (c .before .before .before .before .before .before .before .before .before .before .before .before .before .before .before .before .args .ends .now) % 2) 0)) (lastFrom 0 (c .before .before .before .before .before .before .before .before .before .before .before .before .before .before .before .before .args .ends .now)) _ (sym (c .before .found .given .1) ∙ c .before .before .before .check-pairs .ensures)) .0)) .0)), omega (arith, s .1 .1 .0))
+pairs-length-requires c κs = let s = all-short (c .before .before .before .before .before .before .before .before .before .before .before .before .before .before .before .before .args .name .now ∷ c .before .before .before .before .before .before .before .before .before .before .before .before .before .before .before .before .args .string .now ∷ c .before .before .before .before .before .before .before .before .before .before .before .before .before .before .before .before .args .ends .now ∷ c .before .before .before .before .before .before .before .before .before .before .before .before .before .before .before .before .args .sort .now ∷ c .before .before .before .before .before .before .before .before .before .before .before .before .before .before .before .before .args .body .now ∷ []) (sym (exceeds-one (c .before .before .before .before .before .before .before .before .before .before .before .before .before .before .before .before .args .name .now) (c .before .before .before .before .before .before .before .before .before .before .before .before .before .before .before .before .args .string .now ∷ c .before .before .before .before .before .before .before .before .before .before .before .before .before .before .before .before .args .ends .now ∷ c .before .before .before .before .before .before .before .before .before .before .before .before .before .before .before .before .args .sort .now ∷ c .before .before .before .before .before .before .before .before .before .before .before .before .before .before .before .before .args .body .now ∷ []) (c .before .before .before .before .before .exceeds5 .ensures) (exceeds-one (c .before .before .before .before .before .before .before .before .before .before .before .before .before .before .before .before .args .string .now) (c .before .before .before .before .before .before .before .before .before .before .before .before .before .before .before .before .args .ends .now ∷ c .before .before .before .before .before .before .before .before .before .before .before .before .before .before .before .before .args .sort .now ∷ c .before .before .before .before .before .before .before .before .before .before .before .before .before .before .before .before .args .body .now ∷ []) (c .before .before .before .before .before .before .exceeds4 .ensures) (exceeds-one (c .before .before .before .before .before .before .before .before .before .before .before .before .before .before .before .before .args .ends .now) (c .before .before .before .before .before .before .before .before .before .before .before .before .before .before .before .before .args .sort .now ∷ c .before .before .before .before .before .before .before .before .before .before .before .before .before .before .before .before .args .body .now ∷ []) (c .before .before .before .before .before .before .before .exceeds3 .ensures) (exceeds-one (c .before .before .before .before .before .before .before .before .before .before .before .before .before .before .before .before .args .sort .now) (c .before .before .before .before .before .before .before .before .before .before .before .before .before .before .before .before .args .body .now ∷ []) (c .before .before .before .before .before .before .before .before .exceeds2 .ensures) (exceeds-one (c .before .before .before .before .before .before .before .before .before .before .before .before .before .before .before .before .args .body .now) ([]) (c .before .before .before .before .before .before .before .before .before .exceeds .ensures) (sym none-long)))))) ∙ c .before .before .before .before .if1 .left) in (omega (arith, s .1 .0, (risen-rise ((rise 0 (length (c .before .before .before .before .before .before .before .before .before .before .before .before .before .before .before .before .args .string .now)) (c .before .before .before .before .before .before .before .before .before .before .before .before .before .before .before .before .args .ends .now)) && (eqb (length (c .before .before .before .before .before .before .before .before .before .before .before .before .before .before .before .before .args .ends .now) % 2) 0)) (lastFrom 0 (c .before .before .before .before .before .before .before .before .before .before .before .before .before .before .before .before .args .ends .now)) _ (sym (c .before .found .given .1) ∙ c .before .before .before .check-pairs .ensures)) .1, last-within (length (c .before .before .before .before .before .before .before .before .before .before .before .before .before .before .before .before .args .string .now)) 0 (c .before .before .before .before .before .before .before .before .before .before .before .before .before .before .before .before .args .ends .now) (omega arith) ((both-parts (rise 0 (length (c .before .before .before .before .before .before .before .before .before .before .before .before .before .before .before .before .args .string .now)) (c .before .before .before .before .before .before .before .before .before .before .before .before .before .before .before .before .args .ends .now)) (eqb (length (c .before .before .before .before .before .before .before .before .before .before .before .before .before .before .before .before .args .ends .now) % 2) 0) ((risen-rise ((rise 0 (length (c .before .before .before .before .before .before .before .before .before .before .before .before .before .before .before .before .args .string .now)) (c .before .before .before .before .before .before .before .before .before .before .before .before .before .before .before .before .args .ends .now)) && (eqb (length (c .before .before .before .before .before .before .before .before .before .before .before .before .before .before .before .before .args .ends .now) % 2) 0)) (lastFrom 0 (c .before .before .before .before .before .before .before .before .before .before .before .before .before .before .before .before .args .ends .now)) _ (sym (c .before .found .given .1) ∙ c .before .before .before .check-pairs .ensures)) .0)) .0)), omega (arith, s .1 .1 .0))
 
 -- src/functions.rt:67:16
 add-need : tie.Need-add-need
-add-need c = let s = all-short (c .before .before .before .before .before .before .before .before .before .before .before .before .before .before .before .before .before .args .name .now ∷ c .before .before .before .before .before .before .before .before .before .before .before .before .before .before .before .before .before .args .string .now ∷ c .before .before .before .before .before .before .before .before .before .before .before .before .before .before .before .before .before .args .ends .now ∷ c .before .before .before .before .before .before .before .before .before .before .before .before .before .before .before .before .before .args .sort .now ∷ c .before .before .before .before .before .before .before .before .before .before .before .before .before .before .before .before .before .args .body .now ∷ []) (sym (exceeds-one (c .before .before .before .before .before .before .before .before .before .before .before .before .before .before .before .before .before .args .name .now) (c .before .before .before .before .before .before .before .before .before .before .before .before .before .before .before .before .before .args .string .now ∷ c .before .before .before .before .before .before .before .before .before .before .before .before .before .before .before .before .before .args .ends .now ∷ c .before .before .before .before .before .before .before .before .before .before .before .before .before .before .before .before .before .args .sort .now ∷ c .before .before .before .before .before .before .before .before .before .before .before .before .before .before .before .before .before .args .body .now ∷ []) (c .before .before .before .before .before .before .exceeds5 .ensures) (exceeds-one (c .before .before .before .before .before .before .before .before .before .before .before .before .before .before .before .before .before .args .string .now) (c .before .before .before .before .before .before .before .before .before .before .before .before .before .before .before .before .before .args .ends .now ∷ c .before .before .before .before .before .before .before .before .before .before .before .before .before .before .before .before .before .args .sort .now ∷ c .before .before .before .before .before .before .before .before .before .before .before .before .before .before .before .before .before .args .body .now ∷ []) (c .before .before .before .before .before .before .before .exceeds4 .ensures) (exceeds-one (c .before .before .before .before .before .before .before .before .before .before .before .before .before .before .before .before .before .args .ends .now) (c .before .before .before .before .before .before .before .before .before .before .before .before .before .before .before .before .before .args .sort .now ∷ c .before .before .before .before .before .before .before .before .before .before .before .before .before .before .before .before .before .args .body .now ∷ []) (c .before .before .before .before .before .before .before .before .exceeds3 .ensures) (exceeds-one (c .before .before .before .before .before .before .before .before .before .before .before .before .before .before .before .before .before .args .sort .now) (c .before .before .before .before .before .before .before .before .before .before .before .before .before .before .before .before .before .args .body .now ∷ []) (c .before .before .before .before .before .before .before .before .before .exceeds2 .ensures) (exceeds-one (c .before .before .before .before .before .before .before .before .before .before .before .before .before .before .before .before .before .args .body .now) ([]) (c .before .before .before .before .before .before .before .before .before .before .exceeds .ensures) (sym none-long)))))) ∙ c .before .before .before .before .before .if1 .left) in record { fits = omega (arith, s .0, s .1 .0, s .1 .1 .0, s .1 .1 .1 .0, s .1 .1 .1 .1 .0, c .pairs-length .ensures, (risen-rise ((rise 0 (length (c .before .before .before .before .before .before .before .before .before .before .before .before .before .before .before .before .before .args .string .now)) (c .before .before .before .before .before .before .before .before .before .before .before .before .before .before .before .before .before .args .ends .now)) && (eqb (length (c .before .before .before .before .before .before .before .before .before .before .before .before .before .before .before .before .before .args .ends .now) % 2) 0)) (lastFrom 0 (c .before .before .before .before .before .before .before .before .before .before .before .before .before .before .before .before .before .args .ends .now)) _ (sym (c .before .before .found .given .1) ∙ c .before .before .before .before .check-pairs .ensures)) .1, last-within (length (c .before .before .before .before .before .before .before .before .before .before .before .before .before .before .before .before .before .args .string .now)) 0 (c .before .before .before .before .before .before .before .before .before .before .before .before .before .before .before .before .before .args .ends .now) (omega arith) ((both-right (rise 0 (length (c .before .before .before .before .before .before .before .before .before .before .before .before .before .before .before .before .before .args .string .now)) (c .before .before .before .before .before .before .before .before .before .before .before .before .before .before .before .before .before .args .ends .now)) (eqb (length (c .before .before .before .before .before .before .before .before .before .before .before .before .before .before .before .before .before .args .ends .now) % 2) 0) ((risen-rise ((rise 0 (length (c .before .before .before .before .before .before .before .before .before .before .before .before .before .before .before .before .before .args .string .now)) (c .before .before .before .before .before .before .before .before .before .before .before .before .before .before .before .before .before .args .ends .now)) && (eqb (length (c .before .before .before .before .before .before .before .before .before .before .before .before .before .before .before .before .before .args .ends .now) % 2) 0)) (lastFrom 0 (c .before .before .before .before .before .before .before .before .before .before .before .before .before .before .before .before .before .args .ends .now)) _ (sym (c .before .before .found .given .1) ∙ c .before .before .before .before .check-pairs .ensures)) .0)) .0)) }
+add-need c = let s = all-short (c .before .before .before .before .before .before .before .before .before .before .before .before .before .before .before .before .before .args .name .now ∷ c .before .before .before .before .before .before .before .before .before .before .before .before .before .before .before .before .before .args .string .now ∷ c .before .before .before .before .before .before .before .before .before .before .before .before .before .before .before .before .before .args .ends .now ∷ c .before .before .before .before .before .before .before .before .before .before .before .before .before .before .before .before .before .args .sort .now ∷ c .before .before .before .before .before .before .before .before .before .before .before .before .before .before .before .before .before .args .body .now ∷ []) (sym (exceeds-one (c .before .before .before .before .before .before .before .before .before .before .before .before .before .before .before .before .before .args .name .now) (c .before .before .before .before .before .before .before .before .before .before .before .before .before .before .before .before .before .args .string .now ∷ c .before .before .before .before .before .before .before .before .before .before .before .before .before .before .before .before .before .args .ends .now ∷ c .before .before .before .before .before .before .before .before .before .before .before .before .before .before .before .before .before .args .sort .now ∷ c .before .before .before .before .before .before .before .before .before .before .before .before .before .before .before .before .before .args .body .now ∷ []) (c .before .before .before .before .before .before .exceeds5 .ensures) (exceeds-one (c .before .before .before .before .before .before .before .before .before .before .before .before .before .before .before .before .before .args .string .now) (c .before .before .before .before .before .before .before .before .before .before .before .before .before .before .before .before .before .args .ends .now ∷ c .before .before .before .before .before .before .before .before .before .before .before .before .before .before .before .before .before .args .sort .now ∷ c .before .before .before .before .before .before .before .before .before .before .before .before .before .before .before .before .before .args .body .now ∷ []) (c .before .before .before .before .before .before .before .exceeds4 .ensures) (exceeds-one (c .before .before .before .before .before .before .before .before .before .before .before .before .before .before .before .before .before .args .ends .now) (c .before .before .before .before .before .before .before .before .before .before .before .before .before .before .before .before .before .args .sort .now ∷ c .before .before .before .before .before .before .before .before .before .before .before .before .before .before .before .before .before .args .body .now ∷ []) (c .before .before .before .before .before .before .before .before .exceeds3 .ensures) (exceeds-one (c .before .before .before .before .before .before .before .before .before .before .before .before .before .before .before .before .before .args .sort .now) (c .before .before .before .before .before .before .before .before .before .before .before .before .before .before .before .before .before .args .body .now ∷ []) (c .before .before .before .before .before .before .before .before .before .exceeds2 .ensures) (exceeds-one (c .before .before .before .before .before .before .before .before .before .before .before .before .before .before .before .before .before .args .body .now) ([]) (c .before .before .before .before .before .before .before .before .before .before .exceeds .ensures) (sym none-long)))))) ∙ c .before .before .before .before .before .if1 .left) in record { fits = omega (arith, s .0, s .1 .0, s .1 .1 .0, s .1 .1 .1 .0, s .1 .1 .1 .1 .0, c .pairs-length .ensures, (risen-rise ((rise 0 (length (c .before .before .before .before .before .before .before .before .before .before .before .before .before .before .before .before .before .args .string .now)) (c .before .before .before .before .before .before .before .before .before .before .before .before .before .before .before .before .before .args .ends .now)) && (eqb (length (c .before .before .before .before .before .before .before .before .before .before .before .before .before .before .before .before .before .args .ends .now) % 2) 0)) (lastFrom 0 (c .before .before .before .before .before .before .before .before .before .before .before .before .before .before .before .before .before .args .ends .now)) _ (sym (c .before .before .found .given .1) ∙ c .before .before .before .before .check-pairs .ensures)) .1, last-within (length (c .before .before .before .before .before .before .before .before .before .before .before .before .before .before .before .before .before .args .string .now)) 0 (c .before .before .before .before .before .before .before .before .before .before .before .before .before .before .before .before .before .args .ends .now) (omega arith) ((both-parts (rise 0 (length (c .before .before .before .before .before .before .before .before .before .before .before .before .before .before .before .before .before .args .string .now)) (c .before .before .before .before .before .before .before .before .before .before .before .before .before .before .before .before .before .args .ends .now)) (eqb (length (c .before .before .before .before .before .before .before .before .before .before .before .before .before .before .before .before .before .args .ends .now) % 2) 0) ((risen-rise ((rise 0 (length (c .before .before .before .before .before .before .before .before .before .before .before .before .before .before .before .before .before .args .string .now)) (c .before .before .before .before .before .before .before .before .before .before .before .before .before .before .before .before .before .args .ends .now)) && (eqb (length (c .before .before .before .before .before .before .before .before .before .before .before .before .before .before .before .before .before .args .ends .now) % 2) 0)) (lastFrom 0 (c .before .before .before .before .before .before .before .before .before .before .before .before .before .before .before .before .before .args .ends .now)) _ (sym (c .before .before .found .given .1) ∙ c .before .before .before .before .check-pairs .ensures)) .0)) .0)) }
 
 -- src/functions.rt:67:16
 add-need-2 : tie.Need-add-need-2
-add-need-2 c = let s = all-short (c .before .before .before .before .before .before .before .before .before .before .before .before .before .before .before .before .before .args .name .now ∷ c .before .before .before .before .before .before .before .before .before .before .before .before .before .before .before .before .before .args .string .now ∷ c .before .before .before .before .before .before .before .before .before .before .before .before .before .before .before .before .before .args .ends .now ∷ c .before .before .before .before .before .before .before .before .before .before .before .before .before .before .before .before .before .args .sort .now ∷ c .before .before .before .before .before .before .before .before .before .before .before .before .before .before .before .before .before .args .body .now ∷ []) (sym (exceeds-one (c .before .before .before .before .before .before .before .before .before .before .before .before .before .before .before .before .before .args .name .now) (c .before .before .before .before .before .before .before .before .before .before .before .before .before .before .before .before .before .args .string .now ∷ c .before .before .before .before .before .before .before .before .before .before .before .before .before .before .before .before .before .args .ends .now ∷ c .before .before .before .before .before .before .before .before .before .before .before .before .before .before .before .before .before .args .sort .now ∷ c .before .before .before .before .before .before .before .before .before .before .before .before .before .before .before .before .before .args .body .now ∷ []) (c .before .before .before .before .before .before .exceeds5 .ensures) (exceeds-one (c .before .before .before .before .before .before .before .before .before .before .before .before .before .before .before .before .before .args .string .now) (c .before .before .before .before .before .before .before .before .before .before .before .before .before .before .before .before .before .args .ends .now ∷ c .before .before .before .before .before .before .before .before .before .before .before .before .before .before .before .before .before .args .sort .now ∷ c .before .before .before .before .before .before .before .before .before .before .before .before .before .before .before .before .before .args .body .now ∷ []) (c .before .before .before .before .before .before .before .exceeds4 .ensures) (exceeds-one (c .before .before .before .before .before .before .before .before .before .before .before .before .before .before .before .before .before .args .ends .now) (c .before .before .before .before .before .before .before .before .before .before .before .before .before .before .before .before .before .args .sort .now ∷ c .before .before .before .before .before .before .before .before .before .before .before .before .before .before .before .before .before .args .body .now ∷ []) (c .before .before .before .before .before .before .before .before .exceeds3 .ensures) (exceeds-one (c .before .before .before .before .before .before .before .before .before .before .before .before .before .before .before .before .before .args .sort .now) (c .before .before .before .before .before .before .before .before .before .before .before .before .before .before .before .before .before .args .body .now ∷ []) (c .before .before .before .before .before .before .before .before .before .exceeds2 .ensures) (exceeds-one (c .before .before .before .before .before .before .before .before .before .before .before .before .before .before .before .before .before .args .body .now) ([]) (c .before .before .before .before .before .before .before .before .before .before .exceeds .ensures) (sym none-long)))))) ∙ c .before .before .before .before .before .if1 .left) in record { fits = omega (arith, s .0, s .1 .0, s .1 .1 .0, s .1 .1 .1 .0, s .1 .1 .1 .1 .0, c .pairs-length .ensures, (risen-rise ((rise 0 (length (c .before .before .before .before .before .before .before .before .before .before .before .before .before .before .before .before .before .args .string .now)) (c .before .before .before .before .before .before .before .before .before .before .before .before .before .before .before .before .before .args .ends .now)) && (eqb (length (c .before .before .before .before .before .before .before .before .before .before .before .before .before .before .before .before .before .args .ends .now) % 2) 0)) (lastFrom 0 (c .before .before .before .before .before .before .before .before .before .before .before .before .before .before .before .before .before .args .ends .now)) _ (sym (c .before .before .found .given .1) ∙ c .before .before .before .before .check-pairs .ensures)) .1, last-within (length (c .before .before .before .before .before .before .before .before .before .before .before .before .before .before .before .before .before .args .string .now)) 0 (c .before .before .before .before .before .before .before .before .before .before .before .before .before .before .before .before .before .args .ends .now) (omega arith) ((both-right (rise 0 (length (c .before .before .before .before .before .before .before .before .before .before .before .before .before .before .before .before .before .args .string .now)) (c .before .before .before .before .before .before .before .before .before .before .before .before .before .before .before .before .before .args .ends .now)) (eqb (length (c .before .before .before .before .before .before .before .before .before .before .before .before .before .before .before .before .before .args .ends .now) % 2) 0) ((risen-rise ((rise 0 (length (c .before .before .before .before .before .before .before .before .before .before .before .before .before .before .before .before .before .args .string .now)) (c .before .before .before .before .before .before .before .before .before .before .before .before .before .before .before .before .before .args .ends .now)) && (eqb (length (c .before .before .before .before .before .before .before .before .before .before .before .before .before .before .before .before .before .args .ends .now) % 2) 0)) (lastFrom 0 (c .before .before .before .before .before .before .before .before .before .before .before .before .before .before .before .before .before .args .ends .now)) _ (sym (c .before .before .found .given .1) ∙ c .before .before .before .before .check-pairs .ensures)) .0)) .0)) }
+add-need-2 c = let s = all-short (c .before .before .before .before .before .before .before .before .before .before .before .before .before .before .before .before .before .args .name .now ∷ c .before .before .before .before .before .before .before .before .before .before .before .before .before .before .before .before .before .args .string .now ∷ c .before .before .before .before .before .before .before .before .before .before .before .before .before .before .before .before .before .args .ends .now ∷ c .before .before .before .before .before .before .before .before .before .before .before .before .before .before .before .before .before .args .sort .now ∷ c .before .before .before .before .before .before .before .before .before .before .before .before .before .before .before .before .before .args .body .now ∷ []) (sym (exceeds-one (c .before .before .before .before .before .before .before .before .before .before .before .before .before .before .before .before .before .args .name .now) (c .before .before .before .before .before .before .before .before .before .before .before .before .before .before .before .before .before .args .string .now ∷ c .before .before .before .before .before .before .before .before .before .before .before .before .before .before .before .before .before .args .ends .now ∷ c .before .before .before .before .before .before .before .before .before .before .before .before .before .before .before .before .before .args .sort .now ∷ c .before .before .before .before .before .before .before .before .before .before .before .before .before .before .before .before .before .args .body .now ∷ []) (c .before .before .before .before .before .before .exceeds5 .ensures) (exceeds-one (c .before .before .before .before .before .before .before .before .before .before .before .before .before .before .before .before .before .args .string .now) (c .before .before .before .before .before .before .before .before .before .before .before .before .before .before .before .before .before .args .ends .now ∷ c .before .before .before .before .before .before .before .before .before .before .before .before .before .before .before .before .before .args .sort .now ∷ c .before .before .before .before .before .before .before .before .before .before .before .before .before .before .before .before .before .args .body .now ∷ []) (c .before .before .before .before .before .before .before .exceeds4 .ensures) (exceeds-one (c .before .before .before .before .before .before .before .before .before .before .before .before .before .before .before .before .before .args .ends .now) (c .before .before .before .before .before .before .before .before .before .before .before .before .before .before .before .before .before .args .sort .now ∷ c .before .before .before .before .before .before .before .before .before .before .before .before .before .before .before .before .before .args .body .now ∷ []) (c .before .before .before .before .before .before .before .before .exceeds3 .ensures) (exceeds-one (c .before .before .before .before .before .before .before .before .before .before .before .before .before .before .before .before .before .args .sort .now) (c .before .before .before .before .before .before .before .before .before .before .before .before .before .before .before .before .before .args .body .now ∷ []) (c .before .before .before .before .before .before .before .before .before .exceeds2 .ensures) (exceeds-one (c .before .before .before .before .before .before .before .before .before .before .before .before .before .before .before .before .before .args .body .now) ([]) (c .before .before .before .before .before .before .before .before .before .before .exceeds .ensures) (sym none-long)))))) ∙ c .before .before .before .before .before .if1 .left) in record { fits = omega (arith, s .0, s .1 .0, s .1 .1 .0, s .1 .1 .1 .0, s .1 .1 .1 .1 .0, c .pairs-length .ensures, (risen-rise ((rise 0 (length (c .before .before .before .before .before .before .before .before .before .before .before .before .before .before .before .before .before .args .string .now)) (c .before .before .before .before .before .before .before .before .before .before .before .before .before .before .before .before .before .args .ends .now)) && (eqb (length (c .before .before .before .before .before .before .before .before .before .before .before .before .before .before .before .before .before .args .ends .now) % 2) 0)) (lastFrom 0 (c .before .before .before .before .before .before .before .before .before .before .before .before .before .before .before .before .before .args .ends .now)) _ (sym (c .before .before .found .given .1) ∙ c .before .before .before .before .check-pairs .ensures)) .1, last-within (length (c .before .before .before .before .before .before .before .before .before .before .before .before .before .before .before .before .before .args .string .now)) 0 (c .before .before .before .before .before .before .before .before .before .before .before .before .before .before .before .before .before .args .ends .now) (omega arith) ((both-parts (rise 0 (length (c .before .before .before .before .before .before .before .before .before .before .before .before .before .before .before .before .before .args .string .now)) (c .before .before .before .before .before .before .before .before .before .before .before .before .before .before .before .before .before .args .ends .now)) (eqb (length (c .before .before .before .before .before .before .before .before .before .before .before .before .before .before .before .before .before .args .ends .now) % 2) 0) ((risen-rise ((rise 0 (length (c .before .before .before .before .before .before .before .before .before .before .before .before .before .before .before .before .before .args .string .now)) (c .before .before .before .before .before .before .before .before .before .before .before .before .before .before .before .before .before .args .ends .now)) && (eqb (length (c .before .before .before .before .before .before .before .before .before .before .before .before .before .before .before .before .before .args .ends .now) % 2) 0)) (lastFrom 0 (c .before .before .before .before .before .before .before .before .before .before .before .before .before .before .before .before .before .args .ends .now)) _ (sym (c .before .before .found .given .1) ∙ c .before .before .before .before .check-pairs .ensures)) .0)) .0)) }
 
 -- src/functions.rt:67:16
 add-need-3 : tie.Need-add-need-3
-add-need-3 c = let s = all-short (c .before .before .before .before .before .before .before .before .before .before .before .before .before .before .before .before .before .args .name .now ∷ c .before .before .before .before .before .before .before .before .before .before .before .before .before .before .before .before .before .args .string .now ∷ c .before .before .before .before .before .before .before .before .before .before .before .before .before .before .before .before .before .args .ends .now ∷ c .before .before .before .before .before .before .before .before .before .before .before .before .before .before .before .before .before .args .sort .now ∷ c .before .before .before .before .before .before .before .before .before .before .before .before .before .before .before .before .before .args .body .now ∷ []) (sym (exceeds-one (c .before .before .before .before .before .before .before .before .before .before .before .before .before .before .before .before .before .args .name .now) (c .before .before .before .before .before .before .before .before .before .before .before .before .before .before .before .before .before .args .string .now ∷ c .before .before .before .before .before .before .before .before .before .before .before .before .before .before .before .before .before .args .ends .now ∷ c .before .before .before .before .before .before .before .before .before .before .before .before .before .before .before .before .before .args .sort .now ∷ c .before .before .before .before .before .before .before .before .before .before .before .before .before .before .before .before .before .args .body .now ∷ []) (c .before .before .before .before .before .before .exceeds5 .ensures) (exceeds-one (c .before .before .before .before .before .before .before .before .before .before .before .before .before .before .before .before .before .args .string .now) (c .before .before .before .before .before .before .before .before .before .before .before .before .before .before .before .before .before .args .ends .now ∷ c .before .before .before .before .before .before .before .before .before .before .before .before .before .before .before .before .before .args .sort .now ∷ c .before .before .before .before .before .before .before .before .before .before .before .before .before .before .before .before .before .args .body .now ∷ []) (c .before .before .before .before .before .before .before .exceeds4 .ensures) (exceeds-one (c .before .before .before .before .before .before .before .before .before .before .before .before .before .before .before .before .before .args .ends .now) (c .before .before .before .before .before .before .before .before .before .before .before .before .before .before .before .before .before .args .sort .now ∷ c .before .before .before .before .before .before .before .before .before .before .before .before .before .before .before .before .before .args .body .now ∷ []) (c .before .before .before .before .before .before .before .before .exceeds3 .ensures) (exceeds-one (c .before .before .before .before .before .before .before .before .before .before .before .before .before .before .before .before .before .args .sort .now) (c .before .before .before .before .before .before .before .before .before .before .before .before .before .before .before .before .before .args .body .now ∷ []) (c .before .before .before .before .before .before .before .before .before .exceeds2 .ensures) (exceeds-one (c .before .before .before .before .before .before .before .before .before .before .before .before .before .before .before .before .before .args .body .now) ([]) (c .before .before .before .before .before .before .before .before .before .before .exceeds .ensures) (sym none-long)))))) ∙ c .before .before .before .before .before .if1 .left) in record { fits = omega (arith, s .0, s .1 .0, s .1 .1 .0, s .1 .1 .1 .0, s .1 .1 .1 .1 .0, c .pairs-length .ensures, (risen-rise ((rise 0 (length (c .before .before .before .before .before .before .before .before .before .before .before .before .before .before .before .before .before .args .string .now)) (c .before .before .before .before .before .before .before .before .before .before .before .before .before .before .before .before .before .args .ends .now)) && (eqb (length (c .before .before .before .before .before .before .before .before .before .before .before .before .before .before .before .before .before .args .ends .now) % 2) 0)) (lastFrom 0 (c .before .before .before .before .before .before .before .before .before .before .before .before .before .before .before .before .before .args .ends .now)) _ (sym (c .before .before .found .given .1) ∙ c .before .before .before .before .check-pairs .ensures)) .1, last-within (length (c .before .before .before .before .before .before .before .before .before .before .before .before .before .before .before .before .before .args .string .now)) 0 (c .before .before .before .before .before .before .before .before .before .before .before .before .before .before .before .before .before .args .ends .now) (omega arith) ((both-right (rise 0 (length (c .before .before .before .before .before .before .before .before .before .before .before .before .before .before .before .before .before .args .string .now)) (c .before .before .before .before .before .before .before .before .before .before .before .before .before .before .before .before .before .args .ends .now)) (eqb (length (c .before .before .before .before .before .before .before .before .before .before .before .before .before .before .before .before .before .args .ends .now) % 2) 0) ((risen-rise ((rise 0 (length (c .before .before .before .before .before .before .before .before .before .before .before .before .before .before .before .before .before .args .string .now)) (c .before .before .before .before .before .before .before .before .before .before .before .before .before .before .before .before .before .args .ends .now)) && (eqb (length (c .before .before .before .before .before .before .before .before .before .before .before .before .before .before .before .before .before .args .ends .now) % 2) 0)) (lastFrom 0 (c .before .before .before .before .before .before .before .before .before .before .before .before .before .before .before .before .before .args .ends .now)) _ (sym (c .before .before .found .given .1) ∙ c .before .before .before .before .check-pairs .ensures)) .0)) .0)) }
+add-need-3 c = let s = all-short (c .before .before .before .before .before .before .before .before .before .before .before .before .before .before .before .before .before .args .name .now ∷ c .before .before .before .before .before .before .before .before .before .before .before .before .before .before .before .before .before .args .string .now ∷ c .before .before .before .before .before .before .before .before .before .before .before .before .before .before .before .before .before .args .ends .now ∷ c .before .before .before .before .before .before .before .before .before .before .before .before .before .before .before .before .before .args .sort .now ∷ c .before .before .before .before .before .before .before .before .before .before .before .before .before .before .before .before .before .args .body .now ∷ []) (sym (exceeds-one (c .before .before .before .before .before .before .before .before .before .before .before .before .before .before .before .before .before .args .name .now) (c .before .before .before .before .before .before .before .before .before .before .before .before .before .before .before .before .before .args .string .now ∷ c .before .before .before .before .before .before .before .before .before .before .before .before .before .before .before .before .before .args .ends .now ∷ c .before .before .before .before .before .before .before .before .before .before .before .before .before .before .before .before .before .args .sort .now ∷ c .before .before .before .before .before .before .before .before .before .before .before .before .before .before .before .before .before .args .body .now ∷ []) (c .before .before .before .before .before .before .exceeds5 .ensures) (exceeds-one (c .before .before .before .before .before .before .before .before .before .before .before .before .before .before .before .before .before .args .string .now) (c .before .before .before .before .before .before .before .before .before .before .before .before .before .before .before .before .before .args .ends .now ∷ c .before .before .before .before .before .before .before .before .before .before .before .before .before .before .before .before .before .args .sort .now ∷ c .before .before .before .before .before .before .before .before .before .before .before .before .before .before .before .before .before .args .body .now ∷ []) (c .before .before .before .before .before .before .before .exceeds4 .ensures) (exceeds-one (c .before .before .before .before .before .before .before .before .before .before .before .before .before .before .before .before .before .args .ends .now) (c .before .before .before .before .before .before .before .before .before .before .before .before .before .before .before .before .before .args .sort .now ∷ c .before .before .before .before .before .before .before .before .before .before .before .before .before .before .before .before .before .args .body .now ∷ []) (c .before .before .before .before .before .before .before .before .exceeds3 .ensures) (exceeds-one (c .before .before .before .before .before .before .before .before .before .before .before .before .before .before .before .before .before .args .sort .now) (c .before .before .before .before .before .before .before .before .before .before .before .before .before .before .before .before .before .args .body .now ∷ []) (c .before .before .before .before .before .before .before .before .before .exceeds2 .ensures) (exceeds-one (c .before .before .before .before .before .before .before .before .before .before .before .before .before .before .before .before .before .args .body .now) ([]) (c .before .before .before .before .before .before .before .before .before .before .exceeds .ensures) (sym none-long)))))) ∙ c .before .before .before .before .before .if1 .left) in record { fits = omega (arith, s .0, s .1 .0, s .1 .1 .0, s .1 .1 .1 .0, s .1 .1 .1 .1 .0, c .pairs-length .ensures, (risen-rise ((rise 0 (length (c .before .before .before .before .before .before .before .before .before .before .before .before .before .before .before .before .before .args .string .now)) (c .before .before .before .before .before .before .before .before .before .before .before .before .before .before .before .before .before .args .ends .now)) && (eqb (length (c .before .before .before .before .before .before .before .before .before .before .before .before .before .before .before .before .before .args .ends .now) % 2) 0)) (lastFrom 0 (c .before .before .before .before .before .before .before .before .before .before .before .before .before .before .before .before .before .args .ends .now)) _ (sym (c .before .before .found .given .1) ∙ c .before .before .before .before .check-pairs .ensures)) .1, last-within (length (c .before .before .before .before .before .before .before .before .before .before .before .before .before .before .before .before .before .args .string .now)) 0 (c .before .before .before .before .before .before .before .before .before .before .before .before .before .before .before .before .before .args .ends .now) (omega arith) ((both-parts (rise 0 (length (c .before .before .before .before .before .before .before .before .before .before .before .before .before .before .before .before .before .args .string .now)) (c .before .before .before .before .before .before .before .before .before .before .before .before .before .before .before .before .before .args .ends .now)) (eqb (length (c .before .before .before .before .before .before .before .before .before .before .before .before .before .before .before .before .before .args .ends .now) % 2) 0) ((risen-rise ((rise 0 (length (c .before .before .before .before .before .before .before .before .before .before .before .before .before .before .before .before .before .args .string .now)) (c .before .before .before .before .before .before .before .before .before .before .before .before .before .before .before .before .before .args .ends .now)) && (eqb (length (c .before .before .before .before .before .before .before .before .before .before .before .before .before .before .before .before .before .args .ends .now) % 2) 0)) (lastFrom 0 (c .before .before .before .before .before .before .before .before .before .before .before .before .before .before .before .before .before .args .ends .now)) _ (sym (c .before .before .found .given .1) ∙ c .before .before .before .before .check-pairs .ensures)) .0)) .0)) }
 
 -- src/functions.rt:67:16
 add-need-4 : tie.Need-add-need-4
-add-need-4 c = let s = all-short (c .before .before .before .before .before .before .before .before .before .before .before .before .before .before .before .before .before .args .name .now ∷ c .before .before .before .before .before .before .before .before .before .before .before .before .before .before .before .before .before .args .string .now ∷ c .before .before .before .before .before .before .before .before .before .before .before .before .before .before .before .before .before .args .ends .now ∷ c .before .before .before .before .before .before .before .before .before .before .before .before .before .before .before .before .before .args .sort .now ∷ c .before .before .before .before .before .before .before .before .before .before .before .before .before .before .before .before .before .args .body .now ∷ []) (sym (exceeds-one (c .before .before .before .before .before .before .before .before .before .before .before .before .before .before .before .before .before .args .name .now) (c .before .before .before .before .before .before .before .before .before .before .before .before .before .before .before .before .before .args .string .now ∷ c .before .before .before .before .before .before .before .before .before .before .before .before .before .before .before .before .before .args .ends .now ∷ c .before .before .before .before .before .before .before .before .before .before .before .before .before .before .before .before .before .args .sort .now ∷ c .before .before .before .before .before .before .before .before .before .before .before .before .before .before .before .before .before .args .body .now ∷ []) (c .before .before .before .before .before .before .exceeds5 .ensures) (exceeds-one (c .before .before .before .before .before .before .before .before .before .before .before .before .before .before .before .before .before .args .string .now) (c .before .before .before .before .before .before .before .before .before .before .before .before .before .before .before .before .before .args .ends .now ∷ c .before .before .before .before .before .before .before .before .before .before .before .before .before .before .before .before .before .args .sort .now ∷ c .before .before .before .before .before .before .before .before .before .before .before .before .before .before .before .before .before .args .body .now ∷ []) (c .before .before .before .before .before .before .before .exceeds4 .ensures) (exceeds-one (c .before .before .before .before .before .before .before .before .before .before .before .before .before .before .before .before .before .args .ends .now) (c .before .before .before .before .before .before .before .before .before .before .before .before .before .before .before .before .before .args .sort .now ∷ c .before .before .before .before .before .before .before .before .before .before .before .before .before .before .before .before .before .args .body .now ∷ []) (c .before .before .before .before .before .before .before .before .exceeds3 .ensures) (exceeds-one (c .before .before .before .before .before .before .before .before .before .before .before .before .before .before .before .before .before .args .sort .now) (c .before .before .before .before .before .before .before .before .before .before .before .before .before .before .before .before .before .args .body .now ∷ []) (c .before .before .before .before .before .before .before .before .before .exceeds2 .ensures) (exceeds-one (c .before .before .before .before .before .before .before .before .before .before .before .before .before .before .before .before .before .args .body .now) ([]) (c .before .before .before .before .before .before .before .before .before .before .exceeds .ensures) (sym none-long)))))) ∙ c .before .before .before .before .before .if1 .left) in record { fits = omega (arith, s .0, s .1 .0, s .1 .1 .0, s .1 .1 .1 .0, s .1 .1 .1 .1 .0, c .pairs-length .ensures, (risen-rise ((rise 0 (length (c .before .before .before .before .before .before .before .before .before .before .before .before .before .before .before .before .before .args .string .now)) (c .before .before .before .before .before .before .before .before .before .before .before .before .before .before .before .before .before .args .ends .now)) && (eqb (length (c .before .before .before .before .before .before .before .before .before .before .before .before .before .before .before .before .before .args .ends .now) % 2) 0)) (lastFrom 0 (c .before .before .before .before .before .before .before .before .before .before .before .before .before .before .before .before .before .args .ends .now)) _ (sym (c .before .before .found .given .1) ∙ c .before .before .before .before .check-pairs .ensures)) .1, last-within (length (c .before .before .before .before .before .before .before .before .before .before .before .before .before .before .before .before .before .args .string .now)) 0 (c .before .before .before .before .before .before .before .before .before .before .before .before .before .before .before .before .before .args .ends .now) (omega arith) ((both-right (rise 0 (length (c .before .before .before .before .before .before .before .before .before .before .before .before .before .before .before .before .before .args .string .now)) (c .before .before .before .before .before .before .before .before .before .before .before .before .before .before .before .before .before .args .ends .now)) (eqb (length (c .before .before .before .before .before .before .before .before .before .before .before .before .before .before .before .before .before .args .ends .now) % 2) 0) ((risen-rise ((rise 0 (length (c .before .before .before .before .before .before .before .before .before .before .before .before .before .before .before .before .before .args .string .now)) (c .before .before .before .before .before .before .before .before .before .before .before .before .before .before .before .before .before .args .ends .now)) && (eqb (length (c .before .before .before .before .before .before .before .before .before .before .before .before .before .before .before .before .before .args .ends .now) % 2) 0)) (lastFrom 0 (c .before .before .before .before .before .before .before .before .before .before .before .before .before .before .before .before .before .args .ends .now)) _ (sym (c .before .before .found .given .1) ∙ c .before .before .before .before .check-pairs .ensures)) .0)) .0)) }
+add-need-4 c = let s = all-short (c .before .before .before .before .before .before .before .before .before .before .before .before .before .before .before .before .before .args .name .now ∷ c .before .before .before .before .before .before .before .before .before .before .before .before .before .before .before .before .before .args .string .now ∷ c .before .before .before .before .before .before .before .before .before .before .before .before .before .before .before .before .before .args .ends .now ∷ c .before .before .before .before .before .before .before .before .before .before .before .before .before .before .before .before .before .args .sort .now ∷ c .before .before .before .before .before .before .before .before .before .before .before .before .before .before .before .before .before .args .body .now ∷ []) (sym (exceeds-one (c .before .before .before .before .before .before .before .before .before .before .before .before .before .before .before .before .before .args .name .now) (c .before .before .before .before .before .before .before .before .before .before .before .before .before .before .before .before .before .args .string .now ∷ c .before .before .before .before .before .before .before .before .before .before .before .before .before .before .before .before .before .args .ends .now ∷ c .before .before .before .before .before .before .before .before .before .before .before .before .before .before .before .before .before .args .sort .now ∷ c .before .before .before .before .before .before .before .before .before .before .before .before .before .before .before .before .before .args .body .now ∷ []) (c .before .before .before .before .before .before .exceeds5 .ensures) (exceeds-one (c .before .before .before .before .before .before .before .before .before .before .before .before .before .before .before .before .before .args .string .now) (c .before .before .before .before .before .before .before .before .before .before .before .before .before .before .before .before .before .args .ends .now ∷ c .before .before .before .before .before .before .before .before .before .before .before .before .before .before .before .before .before .args .sort .now ∷ c .before .before .before .before .before .before .before .before .before .before .before .before .before .before .before .before .before .args .body .now ∷ []) (c .before .before .before .before .before .before .before .exceeds4 .ensures) (exceeds-one (c .before .before .before .before .before .before .before .before .before .before .before .before .before .before .before .before .before .args .ends .now) (c .before .before .before .before .before .before .before .before .before .before .before .before .before .before .before .before .before .args .sort .now ∷ c .before .before .before .before .before .before .before .before .before .before .before .before .before .before .before .before .before .args .body .now ∷ []) (c .before .before .before .before .before .before .before .before .exceeds3 .ensures) (exceeds-one (c .before .before .before .before .before .before .before .before .before .before .before .before .before .before .before .before .before .args .sort .now) (c .before .before .before .before .before .before .before .before .before .before .before .before .before .before .before .before .before .args .body .now ∷ []) (c .before .before .before .before .before .before .before .before .before .exceeds2 .ensures) (exceeds-one (c .before .before .before .before .before .before .before .before .before .before .before .before .before .before .before .before .before .args .body .now) ([]) (c .before .before .before .before .before .before .before .before .before .before .exceeds .ensures) (sym none-long)))))) ∙ c .before .before .before .before .before .if1 .left) in record { fits = omega (arith, s .0, s .1 .0, s .1 .1 .0, s .1 .1 .1 .0, s .1 .1 .1 .1 .0, c .pairs-length .ensures, (risen-rise ((rise 0 (length (c .before .before .before .before .before .before .before .before .before .before .before .before .before .before .before .before .before .args .string .now)) (c .before .before .before .before .before .before .before .before .before .before .before .before .before .before .before .before .before .args .ends .now)) && (eqb (length (c .before .before .before .before .before .before .before .before .before .before .before .before .before .before .before .before .before .args .ends .now) % 2) 0)) (lastFrom 0 (c .before .before .before .before .before .before .before .before .before .before .before .before .before .before .before .before .before .args .ends .now)) _ (sym (c .before .before .found .given .1) ∙ c .before .before .before .before .check-pairs .ensures)) .1, last-within (length (c .before .before .before .before .before .before .before .before .before .before .before .before .before .before .before .before .before .args .string .now)) 0 (c .before .before .before .before .before .before .before .before .before .before .before .before .before .before .before .before .before .args .ends .now) (omega arith) ((both-parts (rise 0 (length (c .before .before .before .before .before .before .before .before .before .before .before .before .before .before .before .before .before .args .string .now)) (c .before .before .before .before .before .before .before .before .before .before .before .before .before .before .before .before .before .args .ends .now)) (eqb (length (c .before .before .before .before .before .before .before .before .before .before .before .before .before .before .before .before .before .args .ends .now) % 2) 0) ((risen-rise ((rise 0 (length (c .before .before .before .before .before .before .before .before .before .before .before .before .before .before .before .before .before .args .string .now)) (c .before .before .before .before .before .before .before .before .before .before .before .before .before .before .before .before .before .args .ends .now)) && (eqb (length (c .before .before .before .before .before .before .before .before .before .before .before .before .before .before .before .before .before .args .ends .now) % 2) 0)) (lastFrom 0 (c .before .before .before .before .before .before .before .before .before .before .before .before .before .before .before .before .before .args .ends .now)) _ (sym (c .before .before .found .given .1) ∙ c .before .before .before .before .check-pairs .ensures)) .0)) .0)) }
 
 -- src/functions.rt:69:9
 returns-3 : tie.Need-returns-3
-returns-3 c = scripted-short _ _ _ _ (sym (exceeds-one (c .before .before .before .before .before .before .before .before .before .before .before .before .before .before .before .before .before .before .args .name .now) (c .before .before .before .before .before .before .before .before .before .before .before .before .before .before .before .before .before .before .args .string .now ∷ c .before .before .before .before .before .before .before .before .before .before .before .before .before .before .before .before .before .before .args .ends .now ∷ c .before .before .before .before .before .before .before .before .before .before .before .before .before .before .before .before .before .before .args .sort .now ∷ c .before .before .before .before .before .before .before .before .before .before .before .before .before .before .before .before .before .before .args .body .now ∷ []) (c .before .before .before .before .before .before .before .exceeds5 .ensures) (exceeds-one (c .before .before .before .before .before .before .before .before .before .before .before .before .before .before .before .before .before .before .args .string .now) (c .before .before .before .before .before .before .before .before .before .before .before .before .before .before .before .before .before .before .args .ends .now ∷ c .before .before .before .before .before .before .before .before .before .before .before .before .before .before .before .before .before .before .args .sort .now ∷ c .before .before .before .before .before .before .before .before .before .before .before .before .before .before .before .before .before .before .args .body .now ∷ []) (c .before .before .before .before .before .before .before .before .exceeds4 .ensures) (exceeds-one (c .before .before .before .before .before .before .before .before .before .before .before .before .before .before .before .before .before .before .args .ends .now) (c .before .before .before .before .before .before .before .before .before .before .before .before .before .before .before .before .before .before .args .sort .now ∷ c .before .before .before .before .before .before .before .before .before .before .before .before .before .before .before .before .before .before .args .body .now ∷ []) (c .before .before .before .before .before .before .before .before .before .exceeds3 .ensures) (exceeds-one (c .before .before .before .before .before .before .before .before .before .before .before .before .before .before .before .before .before .before .args .sort .now) (c .before .before .before .before .before .before .before .before .before .before .before .before .before .before .before .before .before .before .args .body .now ∷ []) (c .before .before .before .before .before .before .before .before .before .before .exceeds2 .ensures) (exceeds-one (c .before .before .before .before .before .before .before .before .before .before .before .before .before .before .before .before .before .before .args .body .now) ([]) (c .before .before .before .before .before .before .before .before .before .before .before .exceeds .ensures) (sym none-long)))))) ∙ c .before .before .before .before .before .before .if1 .left) ((risen-rise ((rise 0 (length (c .before .before .before .before .before .before .before .before .before .before .before .before .before .before .before .before .before .before .args .string .now)) (c .before .before .before .before .before .before .before .before .before .before .before .before .before .before .before .before .before .before .args .ends .now)) && (eqb (length (c .before .before .before .before .before .before .before .before .before .before .before .before .before .before .before .before .before .before .args .ends .now) % 2) 0)) (lastFrom 0 (c .before .before .before .before .before .before .before .before .before .before .before .before .before .before .before .before .before .before .args .ends .now)) _ (sym (c .before .before .before .found .given .1) ∙ c .before .before .before .before .before .check-pairs .ensures)) .0) _ (define-fun-long (c .before .before .before .before .before .before .before .before .before .before .before .before .before .before .before .before .before .before .args .name .now) (parts (c .before .before .before .before .before .before .before .before .before .before .before .before .before .before .before .before .before .before .args .string .now) (c .before .before .before .before .before .before .before .before .before .before .before .before .before .before .before .before .before .before .args .ends .now)) (c .before .before .before .before .before .before .before .before .before .before .before .before .before .before .before .before .before .before .args .sort .now) (c .before .before .before .before .before .before .before .before .before .before .before .before .before .before .before .before .before .before .args .body .now) _ (c .before .pairs-length .ensures ∙ ap (λ (k : ℕ). k + length (c .before .before .before .before .before .before .before .before .before .before .before .before .before .before .before .before .before .before .args .ends .now) / 2 * 4 - 1) ((risen-rise ((rise 0 (length (c .before .before .before .before .before .before .before .before .before .before .before .before .before .before .before .before .before .before .args .string .now)) (c .before .before .before .before .before .before .before .before .before .before .before .before .before .before .before .before .before .before .args .ends .now)) && (eqb (length (c .before .before .before .before .before .before .before .before .before .before .before .before .before .before .before .before .before .before .args .ends .now) % 2) 0)) (lastFrom 0 (c .before .before .before .before .before .before .before .before .before .before .before .before .before .before .before .before .before .before .args .ends .now)) _ (sym (c .before .before .before .found .given .1) ∙ c .before .before .before .before .before .check-pairs .ensures)) .1) ∙ sym (pairs-long (c .before .before .before .before .before .before .before .before .before .before .before .before .before .before .before .before .before .before .args .string .now) (c .before .before .before .before .before .before .before .before .before .before .before .before .before .before .before .before .before .before .args .ends .now) ((both-right (rise 0 (length (c .before .before .before .before .before .before .before .before .before .before .before .before .before .before .before .before .before .before .args .string .now)) (c .before .before .before .before .before .before .before .before .before .before .before .before .before .before .before .before .before .before .args .ends .now)) (eqb (length (c .before .before .before .before .before .before .before .before .before .before .before .before .before .before .before .before .before .before .args .ends .now) % 2) 0) ((risen-rise ((rise 0 (length (c .before .before .before .before .before .before .before .before .before .before .before .before .before .before .before .before .before .before .args .string .now)) (c .before .before .before .before .before .before .before .before .before .before .before .before .before .before .before .before .before .before .args .ends .now)) && (eqb (length (c .before .before .before .before .before .before .before .before .before .before .before .before .before .before .before .before .before .before .args .ends .now) % 2) 0)) (lastFrom 0 (c .before .before .before .before .before .before .before .before .before .before .before .before .before .before .before .before .before .before .args .ends .now)) _ (sym (c .before .before .before .found .given .1) ∙ c .before .before .before .before .before .check-pairs .ensures)) .0)) .0) (even-of (c .before .before .before .before .before .before .before .before .before .before .before .before .before .before .before .before .before .before .args .ends .now) ((both-right (rise 0 (length (c .before .before .before .before .before .before .before .before .before .before .before .before .before .before .before .before .before .before .args .string .now)) (c .before .before .before .before .before .before .before .before .before .before .before .before .before .before .before .before .before .before .args .ends .now)) (eqb (length (c .before .before .before .before .before .before .before .before .before .before .before .before .before .before .before .before .before .before .args .ends .now) % 2) 0) ((risen-rise ((rise 0 (length (c .before .before .before .before .before .before .before .before .before .before .before .before .before .before .before .before .before .before .args .string .now)) (c .before .before .before .before .before .before .before .before .before .before .before .before .before .before .before .before .before .before .args .ends .now)) && (eqb (length (c .before .before .before .before .before .before .before .before .before .before .before .before .before .before .before .before .before .before .args .ends .now) % 2) 0)) (lastFrom 0 (c .before .before .before .before .before .before .before .before .before .before .before .before .before .before .before .before .before .before .args .ends .now)) _ (sym (c .before .before .before .found .given .1) ∙ c .before .before .before .before .before .check-pairs .ensures)) .0)) .1))))) (c .if2 .taken)
+returns-3 c = scripted-short _ _ _ _ (sym (exceeds-one (c .before .before .before .before .before .before .before .before .before .before .before .before .before .before .before .before .before .before .args .name .now) (c .before .before .before .before .before .before .before .before .before .before .before .before .before .before .before .before .before .before .args .string .now ∷ c .before .before .before .before .before .before .before .before .before .before .before .before .before .before .before .before .before .before .args .ends .now ∷ c .before .before .before .before .before .before .before .before .before .before .before .before .before .before .before .before .before .before .args .sort .now ∷ c .before .before .before .before .before .before .before .before .before .before .before .before .before .before .before .before .before .before .args .body .now ∷ []) (c .before .before .before .before .before .before .before .exceeds5 .ensures) (exceeds-one (c .before .before .before .before .before .before .before .before .before .before .before .before .before .before .before .before .before .before .args .string .now) (c .before .before .before .before .before .before .before .before .before .before .before .before .before .before .before .before .before .before .args .ends .now ∷ c .before .before .before .before .before .before .before .before .before .before .before .before .before .before .before .before .before .before .args .sort .now ∷ c .before .before .before .before .before .before .before .before .before .before .before .before .before .before .before .before .before .before .args .body .now ∷ []) (c .before .before .before .before .before .before .before .before .exceeds4 .ensures) (exceeds-one (c .before .before .before .before .before .before .before .before .before .before .before .before .before .before .before .before .before .before .args .ends .now) (c .before .before .before .before .before .before .before .before .before .before .before .before .before .before .before .before .before .before .args .sort .now ∷ c .before .before .before .before .before .before .before .before .before .before .before .before .before .before .before .before .before .before .args .body .now ∷ []) (c .before .before .before .before .before .before .before .before .before .exceeds3 .ensures) (exceeds-one (c .before .before .before .before .before .before .before .before .before .before .before .before .before .before .before .before .before .before .args .sort .now) (c .before .before .before .before .before .before .before .before .before .before .before .before .before .before .before .before .before .before .args .body .now ∷ []) (c .before .before .before .before .before .before .before .before .before .before .exceeds2 .ensures) (exceeds-one (c .before .before .before .before .before .before .before .before .before .before .before .before .before .before .before .before .before .before .args .body .now) ([]) (c .before .before .before .before .before .before .before .before .before .before .before .exceeds .ensures) (sym none-long)))))) ∙ c .before .before .before .before .before .before .if1 .left) ((risen-rise ((rise 0 (length (c .before .before .before .before .before .before .before .before .before .before .before .before .before .before .before .before .before .before .args .string .now)) (c .before .before .before .before .before .before .before .before .before .before .before .before .before .before .before .before .before .before .args .ends .now)) && (eqb (length (c .before .before .before .before .before .before .before .before .before .before .before .before .before .before .before .before .before .before .args .ends .now) % 2) 0)) (lastFrom 0 (c .before .before .before .before .before .before .before .before .before .before .before .before .before .before .before .before .before .before .args .ends .now)) _ (sym (c .before .before .before .found .given .1) ∙ c .before .before .before .before .before .check-pairs .ensures)) .0) _ (define-fun-long (c .before .before .before .before .before .before .before .before .before .before .before .before .before .before .before .before .before .before .args .name .now) (parts (c .before .before .before .before .before .before .before .before .before .before .before .before .before .before .before .before .before .before .args .string .now) (c .before .before .before .before .before .before .before .before .before .before .before .before .before .before .before .before .before .before .args .ends .now)) (c .before .before .before .before .before .before .before .before .before .before .before .before .before .before .before .before .before .before .args .sort .now) (c .before .before .before .before .before .before .before .before .before .before .before .before .before .before .before .before .before .before .args .body .now) _ (c .before .pairs-length .ensures ∙ ap (λ (k : ℕ). k + length (c .before .before .before .before .before .before .before .before .before .before .before .before .before .before .before .before .before .before .args .ends .now) / 2 * 4 - 1) ((risen-rise ((rise 0 (length (c .before .before .before .before .before .before .before .before .before .before .before .before .before .before .before .before .before .before .args .string .now)) (c .before .before .before .before .before .before .before .before .before .before .before .before .before .before .before .before .before .before .args .ends .now)) && (eqb (length (c .before .before .before .before .before .before .before .before .before .before .before .before .before .before .before .before .before .before .args .ends .now) % 2) 0)) (lastFrom 0 (c .before .before .before .before .before .before .before .before .before .before .before .before .before .before .before .before .before .before .args .ends .now)) _ (sym (c .before .before .before .found .given .1) ∙ c .before .before .before .before .before .check-pairs .ensures)) .1) ∙ sym (pairs-long (c .before .before .before .before .before .before .before .before .before .before .before .before .before .before .before .before .before .before .args .string .now) (c .before .before .before .before .before .before .before .before .before .before .before .before .before .before .before .before .before .before .args .ends .now) ((both-parts (rise 0 (length (c .before .before .before .before .before .before .before .before .before .before .before .before .before .before .before .before .before .before .args .string .now)) (c .before .before .before .before .before .before .before .before .before .before .before .before .before .before .before .before .before .before .args .ends .now)) (eqb (length (c .before .before .before .before .before .before .before .before .before .before .before .before .before .before .before .before .before .before .args .ends .now) % 2) 0) ((risen-rise ((rise 0 (length (c .before .before .before .before .before .before .before .before .before .before .before .before .before .before .before .before .before .before .args .string .now)) (c .before .before .before .before .before .before .before .before .before .before .before .before .before .before .before .before .before .before .args .ends .now)) && (eqb (length (c .before .before .before .before .before .before .before .before .before .before .before .before .before .before .before .before .before .before .args .ends .now) % 2) 0)) (lastFrom 0 (c .before .before .before .before .before .before .before .before .before .before .before .before .before .before .before .before .before .before .args .ends .now)) _ (sym (c .before .before .before .found .given .1) ∙ c .before .before .before .before .before .check-pairs .ensures)) .0)) .0) (even-of (c .before .before .before .before .before .before .before .before .before .before .before .before .before .before .before .before .before .before .args .ends .now) ((both-parts (rise 0 (length (c .before .before .before .before .before .before .before .before .before .before .before .before .before .before .before .before .before .before .args .string .now)) (c .before .before .before .before .before .before .before .before .before .before .before .before .before .before .before .before .before .before .args .ends .now)) (eqb (length (c .before .before .before .before .before .before .before .before .before .before .before .before .before .before .before .before .before .before .args .ends .now) % 2) 0) ((risen-rise ((rise 0 (length (c .before .before .before .before .before .before .before .before .before .before .before .before .before .before .before .before .before .before .args .string .now)) (c .before .before .before .before .before .before .before .before .before .before .before .before .before .before .before .before .before .before .args .ends .now)) && (eqb (length (c .before .before .before .before .before .before .before .before .before .before .before .before .before .before .before .before .before .before .args .ends .now) % 2) 0)) (lastFrom 0 (c .before .before .before .before .before .before .before .before .before .before .before .before .before .before .before .before .before .before .args .ends .now)) _ (sym (c .before .before .before .found .given .1) ∙ c .before .before .before .before .before .check-pairs .ensures)) .0)) .1))))) (c .if2 .taken)
 
 -- src/functions.rt:71:5
 put-define-fun-requires : tie.Need-put-define-fun-requires
-put-define-fun-requires c κs = (both-right (rise 0 (length (c .before .before .before .before .before .before .before .before .before .before .before .before .before .before .before .before .before .before .before .args .string .now)) (c .before .before .before .before .before .before .before .before .before .before .before .before .before .before .before .before .before .before .before .args .ends .now)) (eqb (length (c .before .before .before .before .before .before .before .before .before .before .before .before .before .before .before .before .before .before .before .args .ends .now) % 2) 0) ((risen-rise ((rise 0 (length (c .before .before .before .before .before .before .before .before .before .before .before .before .before .before .before .before .before .before .before .args .string .now)) (c .before .before .before .before .before .before .before .before .before .before .before .before .before .before .before .before .before .before .before .args .ends .now)) && (eqb (length (c .before .before .before .before .before .before .before .before .before .before .before .before .before .before .before .before .before .before .before .args .ends .now) % 2) 0)) (lastFrom 0 (c .before .before .before .before .before .before .before .before .before .before .before .before .before .before .before .before .before .before .before .args .ends .now)) _ (sym (c .before .before .before .before .found .given .1) ∙ c .before .before .before .before .before .before .check-pairs .ensures)) .0)) .0
+put-define-fun-requires c κs = (both-parts (rise 0 (length (c .before .before .before .before .before .before .before .before .before .before .before .before .before .before .before .before .before .before .before .args .string .now)) (c .before .before .before .before .before .before .before .before .before .before .before .before .before .before .before .before .before .before .before .args .ends .now)) (eqb (length (c .before .before .before .before .before .before .before .before .before .before .before .before .before .before .before .before .before .before .before .args .ends .now) % 2) 0) ((risen-rise ((rise 0 (length (c .before .before .before .before .before .before .before .before .before .before .before .before .before .before .before .before .before .before .before .args .string .now)) (c .before .before .before .before .before .before .before .before .before .before .before .before .before .before .before .before .before .before .before .args .ends .now)) && (eqb (length (c .before .before .before .before .before .before .before .before .before .before .before .before .before .before .before .before .before .before .before .args .ends .now) % 2) 0)) (lastFrom 0 (c .before .before .before .before .before .before .before .before .before .before .before .before .before .before .before .before .before .before .before .args .ends .now)) _ (sym (c .before .before .before .before .found .given .1) ∙ c .before .before .before .before .before .before .check-pairs .ensures)) .0)) .0
 
 -- src/functions.rt:45:1
 same-length : tie.Need-same-length
@@ -97,7 +99,7 @@ same-length c = search needs
 
 -- src/functions.rt:45:1
 returns-4 : tie.Need-returns-4
-returns-4 c = scripted-line _ _ _ _ (sym (exceeds-one (c .before .before .before .before .before .before .before .before .before .before .before .before .before .before .before .before .before .before .before .before .before .before .args .name .now) (c .before .before .before .before .before .before .before .before .before .before .before .before .before .before .before .before .before .before .before .before .before .before .args .string .now ∷ c .before .before .before .before .before .before .before .before .before .before .before .before .before .before .before .before .before .before .before .before .before .before .args .ends .now ∷ c .before .before .before .before .before .before .before .before .before .before .before .before .before .before .before .before .before .before .before .before .before .before .args .sort .now ∷ c .before .before .before .before .before .before .before .before .before .before .before .before .before .before .before .before .before .before .before .before .before .before .args .body .now ∷ []) (c .before .before .before .before .before .before .before .before .before .before .before .exceeds5 .ensures) (exceeds-one (c .before .before .before .before .before .before .before .before .before .before .before .before .before .before .before .before .before .before .before .before .before .before .args .string .now) (c .before .before .before .before .before .before .before .before .before .before .before .before .before .before .before .before .before .before .before .before .before .before .args .ends .now ∷ c .before .before .before .before .before .before .before .before .before .before .before .before .before .before .before .before .before .before .before .before .before .before .args .sort .now ∷ c .before .before .before .before .before .before .before .before .before .before .before .before .before .before .before .before .before .before .before .before .before .before .args .body .now ∷ []) (c .before .before .before .before .before .before .before .before .before .before .before .before .exceeds4 .ensures) (exceeds-one (c .before .before .before .before .before .before .before .before .before .before .before .before .before .before .before .before .before .before .before .before .before .before .args .ends .now) (c .before .before .before .before .before .before .before .before .before .before .before .before .before .before .before .before .before .before .before .before .before .before .args .sort .now ∷ c .before .before .before .before .before .before .before .before .before .before .before .before .before .before .before .before .before .before .before .before .before .before .args .body .now ∷ []) (c .before .before .before .before .before .before .before .before .before .before .before .before .before .exceeds3 .ensures) (exceeds-one (c .before .before .before .before .before .before .before .before .before .before .before .before .before .before .before .before .before .before .before .before .before .before .args .sort .now) (c .before .before .before .before .before .before .before .before .before .before .before .before .before .before .before .before .before .before .before .before .before .before .args .body .now ∷ []) (c .before .before .before .before .before .before .before .before .before .before .before .before .before .before .exceeds2 .ensures) (exceeds-one (c .before .before .before .before .before .before .before .before .before .before .before .before .before .before .before .before .before .before .before .before .before .before .args .body .now) ([]) (c .before .before .before .before .before .before .before .before .before .before .before .before .before .before .before .exceeds .ensures) (sym none-long)))))) ∙ c .before .before .before .before .before .before .before .before .before .before .if1 .left) ((risen-rise ((rise 0 (length (c .before .before .before .before .before .before .before .before .before .before .before .before .before .before .before .before .before .before .before .before .before .before .args .string .now)) (c .before .before .before .before .before .before .before .before .before .before .before .before .before .before .before .before .before .before .before .before .before .before .args .ends .now)) && (eqb (length (c .before .before .before .before .before .before .before .before .before .before .before .before .before .before .before .before .before .before .before .before .before .before .args .ends .now) % 2) 0)) (lastFrom 0 (c .before .before .before .before .before .before .before .before .before .before .before .before .before .before .before .before .before .before .before .before .before .before .args .ends .now)) _ (sym (c .before .before .before .before .before .before .before .found .given .1) ∙ c .before .before .before .before .before .before .before .before .before .check-pairs .ensures)) .0) _ (define-fun-long (c .before .before .before .before .before .before .before .before .before .before .before .before .before .before .before .before .before .before .before .before .before .before .args .name .now) (parts (c .before .before .before .before .before .before .before .before .before .before .before .before .before .before .before .before .before .before .before .before .before .before .args .string .now) (c .before .before .before .before .before .before .before .before .before .before .before .before .before .before .before .before .before .before .before .before .before .before .args .ends .now)) (c .before .before .before .before .before .before .before .before .before .before .before .before .before .before .before .before .before .before .before .before .before .before .args .sort .now) (c .before .before .before .before .before .before .before .before .before .before .before .before .before .before .before .before .before .before .before .before .before .before .args .body .now) _ (c .before .before .before .before .before .pairs-length .ensures ∙ ap (λ (k : ℕ). k + length (c .before .before .before .before .before .before .before .before .before .before .before .before .before .before .before .before .before .before .before .before .before .before .args .ends .now) / 2 * 4 - 1) ((risen-rise ((rise 0 (length (c .before .before .before .before .before .before .before .before .before .before .before .before .before .before .before .before .before .before .before .before .before .before .args .string .now)) (c .before .before .before .before .before .before .before .before .before .before .before .before .before .before .before .before .before .before .before .before .before .before .args .ends .now)) && (eqb (length (c .before .before .before .before .before .before .before .before .before .before .before .before .before .before .before .before .before .before .before .before .before .before .args .ends .now) % 2) 0)) (lastFrom 0 (c .before .before .before .before .before .before .before .before .before .before .before .before .before .before .before .before .before .before .before .before .before .before .args .ends .now)) _ (sym (c .before .before .before .before .before .before .before .found .given .1) ∙ c .before .before .before .before .before .before .before .before .before .check-pairs .ensures)) .1) ∙ sym (pairs-long (c .before .before .before .before .before .before .before .before .before .before .before .before .before .before .before .before .before .before .before .before .before .before .args .string .now) (c .before .before .before .before .before .before .before .before .before .before .before .before .before .before .before .before .before .before .before .before .before .before .args .ends .now) ((both-right (rise 0 (length (c .before .before .before .before .before .before .before .before .before .before .before .before .before .before .before .before .before .before .before .before .before .before .args .string .now)) (c .before .before .before .before .before .before .before .before .before .before .before .before .before .before .before .before .before .before .before .before .before .before .args .ends .now)) (eqb (length (c .before .before .before .before .before .before .before .before .before .before .before .before .before .before .before .before .before .before .before .before .before .before .args .ends .now) % 2) 0) ((risen-rise ((rise 0 (length (c .before .before .before .before .before .before .before .before .before .before .before .before .before .before .before .before .before .before .before .before .before .before .args .string .now)) (c .before .before .before .before .before .before .before .before .before .before .before .before .before .before .before .before .before .before .before .before .before .before .args .ends .now)) && (eqb (length (c .before .before .before .before .before .before .before .before .before .before .before .before .before .before .before .before .before .before .before .before .before .before .args .ends .now) % 2) 0)) (lastFrom 0 (c .before .before .before .before .before .before .before .before .before .before .before .before .before .before .before .before .before .before .before .before .before .before .args .ends .now)) _ (sym (c .before .before .before .before .before .before .before .found .given .1) ∙ c .before .before .before .before .before .before .before .before .before .check-pairs .ensures)) .0)) .0) (even-of (c .before .before .before .before .before .before .before .before .before .before .before .before .before .before .before .before .before .before .before .before .before .before .args .ends .now) ((both-right (rise 0 (length (c .before .before .before .before .before .before .before .before .before .before .before .before .before .before .before .before .before .before .before .before .before .before .args .string .now)) (c .before .before .before .before .before .before .before .before .before .before .before .before .before .before .before .before .before .before .before .before .before .before .args .ends .now)) (eqb (length (c .before .before .before .before .before .before .before .before .before .before .before .before .before .before .before .before .before .before .before .before .before .before .args .ends .now) % 2) 0) ((risen-rise ((rise 0 (length (c .before .before .before .before .before .before .before .before .before .before .before .before .before .before .before .before .before .before .before .before .before .before .args .string .now)) (c .before .before .before .before .before .before .before .before .before .before .before .before .before .before .before .before .before .before .before .before .before .before .args .ends .now)) && (eqb (length (c .before .before .before .before .before .before .before .before .before .before .before .before .before .before .before .before .before .before .before .before .before .before .args .ends .now) % 2) 0)) (lastFrom 0 (c .before .before .before .before .before .before .before .before .before .before .before .before .before .before .before .before .before .before .before .before .before .before .args .ends .now)) _ (sym (c .before .before .before .before .before .before .before .found .given .1) ∙ c .before .before .before .before .before .before .before .before .before .check-pairs .ensures)) .0)) .1))))) (omega (arith, c .before .before .before .before .if2 .left)) _ _ (c .before .before .put-define-fun .ensures)
+returns-4 c = scripted-line _ _ _ _ (sym (exceeds-one (c .before .before .before .before .before .before .before .before .before .before .before .before .before .before .before .before .before .before .before .before .before .before .args .name .now) (c .before .before .before .before .before .before .before .before .before .before .before .before .before .before .before .before .before .before .before .before .before .before .args .string .now ∷ c .before .before .before .before .before .before .before .before .before .before .before .before .before .before .before .before .before .before .before .before .before .before .args .ends .now ∷ c .before .before .before .before .before .before .before .before .before .before .before .before .before .before .before .before .before .before .before .before .before .before .args .sort .now ∷ c .before .before .before .before .before .before .before .before .before .before .before .before .before .before .before .before .before .before .before .before .before .before .args .body .now ∷ []) (c .before .before .before .before .before .before .before .before .before .before .before .exceeds5 .ensures) (exceeds-one (c .before .before .before .before .before .before .before .before .before .before .before .before .before .before .before .before .before .before .before .before .before .before .args .string .now) (c .before .before .before .before .before .before .before .before .before .before .before .before .before .before .before .before .before .before .before .before .before .before .args .ends .now ∷ c .before .before .before .before .before .before .before .before .before .before .before .before .before .before .before .before .before .before .before .before .before .before .args .sort .now ∷ c .before .before .before .before .before .before .before .before .before .before .before .before .before .before .before .before .before .before .before .before .before .before .args .body .now ∷ []) (c .before .before .before .before .before .before .before .before .before .before .before .before .exceeds4 .ensures) (exceeds-one (c .before .before .before .before .before .before .before .before .before .before .before .before .before .before .before .before .before .before .before .before .before .before .args .ends .now) (c .before .before .before .before .before .before .before .before .before .before .before .before .before .before .before .before .before .before .before .before .before .before .args .sort .now ∷ c .before .before .before .before .before .before .before .before .before .before .before .before .before .before .before .before .before .before .before .before .before .before .args .body .now ∷ []) (c .before .before .before .before .before .before .before .before .before .before .before .before .before .exceeds3 .ensures) (exceeds-one (c .before .before .before .before .before .before .before .before .before .before .before .before .before .before .before .before .before .before .before .before .before .before .args .sort .now) (c .before .before .before .before .before .before .before .before .before .before .before .before .before .before .before .before .before .before .before .before .before .before .args .body .now ∷ []) (c .before .before .before .before .before .before .before .before .before .before .before .before .before .before .exceeds2 .ensures) (exceeds-one (c .before .before .before .before .before .before .before .before .before .before .before .before .before .before .before .before .before .before .before .before .before .before .args .body .now) ([]) (c .before .before .before .before .before .before .before .before .before .before .before .before .before .before .before .exceeds .ensures) (sym none-long)))))) ∙ c .before .before .before .before .before .before .before .before .before .before .if1 .left) ((risen-rise ((rise 0 (length (c .before .before .before .before .before .before .before .before .before .before .before .before .before .before .before .before .before .before .before .before .before .before .args .string .now)) (c .before .before .before .before .before .before .before .before .before .before .before .before .before .before .before .before .before .before .before .before .before .before .args .ends .now)) && (eqb (length (c .before .before .before .before .before .before .before .before .before .before .before .before .before .before .before .before .before .before .before .before .before .before .args .ends .now) % 2) 0)) (lastFrom 0 (c .before .before .before .before .before .before .before .before .before .before .before .before .before .before .before .before .before .before .before .before .before .before .args .ends .now)) _ (sym (c .before .before .before .before .before .before .before .found .given .1) ∙ c .before .before .before .before .before .before .before .before .before .check-pairs .ensures)) .0) _ (define-fun-long (c .before .before .before .before .before .before .before .before .before .before .before .before .before .before .before .before .before .before .before .before .before .before .args .name .now) (parts (c .before .before .before .before .before .before .before .before .before .before .before .before .before .before .before .before .before .before .before .before .before .before .args .string .now) (c .before .before .before .before .before .before .before .before .before .before .before .before .before .before .before .before .before .before .before .before .before .before .args .ends .now)) (c .before .before .before .before .before .before .before .before .before .before .before .before .before .before .before .before .before .before .before .before .before .before .args .sort .now) (c .before .before .before .before .before .before .before .before .before .before .before .before .before .before .before .before .before .before .before .before .before .before .args .body .now) _ (c .before .before .before .before .before .pairs-length .ensures ∙ ap (λ (k : ℕ). k + length (c .before .before .before .before .before .before .before .before .before .before .before .before .before .before .before .before .before .before .before .before .before .before .args .ends .now) / 2 * 4 - 1) ((risen-rise ((rise 0 (length (c .before .before .before .before .before .before .before .before .before .before .before .before .before .before .before .before .before .before .before .before .before .before .args .string .now)) (c .before .before .before .before .before .before .before .before .before .before .before .before .before .before .before .before .before .before .before .before .before .before .args .ends .now)) && (eqb (length (c .before .before .before .before .before .before .before .before .before .before .before .before .before .before .before .before .before .before .before .before .before .before .args .ends .now) % 2) 0)) (lastFrom 0 (c .before .before .before .before .before .before .before .before .before .before .before .before .before .before .before .before .before .before .before .before .before .before .args .ends .now)) _ (sym (c .before .before .before .before .before .before .before .found .given .1) ∙ c .before .before .before .before .before .before .before .before .before .check-pairs .ensures)) .1) ∙ sym (pairs-long (c .before .before .before .before .before .before .before .before .before .before .before .before .before .before .before .before .before .before .before .before .before .before .args .string .now) (c .before .before .before .before .before .before .before .before .before .before .before .before .before .before .before .before .before .before .before .before .before .before .args .ends .now) ((both-parts (rise 0 (length (c .before .before .before .before .before .before .before .before .before .before .before .before .before .before .before .before .before .before .before .before .before .before .args .string .now)) (c .before .before .before .before .before .before .before .before .before .before .before .before .before .before .before .before .before .before .before .before .before .before .args .ends .now)) (eqb (length (c .before .before .before .before .before .before .before .before .before .before .before .before .before .before .before .before .before .before .before .before .before .before .args .ends .now) % 2) 0) ((risen-rise ((rise 0 (length (c .before .before .before .before .before .before .before .before .before .before .before .before .before .before .before .before .before .before .before .before .before .before .args .string .now)) (c .before .before .before .before .before .before .before .before .before .before .before .before .before .before .before .before .before .before .before .before .before .before .args .ends .now)) && (eqb (length (c .before .before .before .before .before .before .before .before .before .before .before .before .before .before .before .before .before .before .before .before .before .before .args .ends .now) % 2) 0)) (lastFrom 0 (c .before .before .before .before .before .before .before .before .before .before .before .before .before .before .before .before .before .before .before .before .before .before .args .ends .now)) _ (sym (c .before .before .before .before .before .before .before .found .given .1) ∙ c .before .before .before .before .before .before .before .before .before .check-pairs .ensures)) .0)) .0) (even-of (c .before .before .before .before .before .before .before .before .before .before .before .before .before .before .before .before .before .before .before .before .before .before .args .ends .now) ((both-parts (rise 0 (length (c .before .before .before .before .before .before .before .before .before .before .before .before .before .before .before .before .before .before .before .before .before .before .args .string .now)) (c .before .before .before .before .before .before .before .before .before .before .before .before .before .before .before .before .before .before .before .before .before .before .args .ends .now)) (eqb (length (c .before .before .before .before .before .before .before .before .before .before .before .before .before .before .before .before .before .before .before .before .before .before .args .ends .now) % 2) 0) ((risen-rise ((rise 0 (length (c .before .before .before .before .before .before .before .before .before .before .before .before .before .before .before .before .before .before .before .before .before .before .args .string .now)) (c .before .before .before .before .before .before .before .before .before .before .before .before .before .before .before .before .before .before .before .before .before .before .args .ends .now)) && (eqb (length (c .before .before .before .before .before .before .before .before .before .before .before .before .before .before .before .before .before .before .before .before .before .before .args .ends .now) % 2) 0)) (lastFrom 0 (c .before .before .before .before .before .before .before .before .before .before .before .before .before .before .before .before .before .before .before .before .before .before .args .ends .now)) _ (sym (c .before .before .before .before .before .before .before .found .given .1) ∙ c .before .before .before .before .before .before .before .before .before .check-pairs .ensures)) .0)) .1))))) (omega (arith, c .before .before .before .before .if2 .left)) _ _ (c .before .before .put-define-fun .ensures)
 
 pub define-fun-spec : {M : Type 1} → statement M
 define-fun-spec =

@@ -1,5 +1,5 @@
 use Rattle.lent.proofs.Offers.{offers-then, offers-as}
-use Rattle.script.specs.Parts.{parts}
+use Rattle.parts.specs.Parts.{parts}
 use Rattle.script.proofs.Lines.{define-fun-line}
 use mathlib.Core.Path.{_∙_}
 use borrow.Author.Needs.{needs}
@@ -8,7 +8,7 @@ use Rattle.script.proofs.functions.put_define_fun.Tie as tie
 use Rattle.script.proofs.functions.put_define_fun.Reads as reads
 use Rattle.script.proofs.functions.put_define_fun.Lts as lts
 use Rattle.lent.proofs.put.Reads as put-reads
-use Rattle.script.proofs.parts.put_pairs.Reads as put-pairs-reads
+use Rattle.parts.proofs.put_pairs.Reads as put-pairs-reads
 
 -- src/functions.rt:33:19
 slice-aggregate-put : tie.Need-slice-aggregate-put

@@ -2,7 +2,8 @@ use mathlib.Core.Path.{_≡_, refl, sym, ap, _∙_}
 use mathlib.Core.Bool.{true}
 use mathlib.Core.List.{[], _∷_}
 use native.Mathlib.Omega.{arith}
-use Rattle.script.proofs.Scripts.{none-long, exceeds-one, long-head, long-tail, scripted-long, scripted-short, scripted-line}
+use Rattle.parts.proofs.Limits.{none-long, exceeds-one, long-head, long-tail}
+use Rattle.script.proofs.Scripts.{scripted-long, scripted-short, scripted-line}
 use Rattle.script.proofs.Lengths.{two-long}
 use Rattle.lent.proofs.Offers.{offers-then}
 use borrow.Author.Needs.{needs}
@@ -11,7 +12,7 @@ use Rattle.script.proofs.plain.write_two.Tie as tie
 use Rattle.script.proofs.plain.write_two.Reads as reads
 use Rattle.script.proofs.plain.write_two.Lts as lts
 use Rattle.lent.proofs.put.Reads as put-reads
-use Rattle.script.proofs.ends.exceeds.Reads as exceeds-reads
+use Rattle.parts.proofs.exceeds.Reads as exceeds-reads
 
 -- src/plain.rt:50:9
 exceeds-requires : tie.Need-exceeds-requires

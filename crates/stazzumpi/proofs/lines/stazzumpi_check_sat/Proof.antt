@@ -5,8 +5,8 @@ use Rattle.stazzumpi.proofs.lines.stazzumpi_check_sat.Tie as tie
 use Rattle.stazzumpi.proofs.lines.stazzumpi_check_sat.Reads as reads
 use Rattle.stazzumpi.proofs.lines.stazzumpi_check_sat.Lts as lts
 use Rattle.script.proofs.check_sat.Reads as check-sat-reads
-use Rattle.stazzumpi.proofs.answer.code.Reads as code-reads
-use Rattle.stazzumpi.proofs.answer.tell_written.Reads as tell-written-reads
+use Rattle.told.proofs.code.Reads as code-reads
+use Rattle.told.proofs.tell_written.Reads as tell-written-reads
 
 -- src/lines.rt:85:9
 code-requires : tie.Need-code-requires

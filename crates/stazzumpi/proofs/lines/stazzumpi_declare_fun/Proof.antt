@@ -5,8 +5,8 @@ use Rattle.stazzumpi.proofs.lines.stazzumpi_declare_fun.Tie as tie
 use Rattle.stazzumpi.proofs.lines.stazzumpi_declare_fun.Reads as reads
 use Rattle.stazzumpi.proofs.lines.stazzumpi_declare_fun.Lts as lts
 use Rattle.script.proofs.declare_fun.Reads as declare-fun-reads
-use Rattle.stazzumpi.proofs.answer.code.Reads as code-reads
-use Rattle.stazzumpi.proofs.answer.tell_written.Reads as tell-written-reads
+use Rattle.told.proofs.code.Reads as code-reads
+use Rattle.told.proofs.tell_written.Reads as tell-written-reads
 
 -- src/lines.rt:113:9
 code-requires : tie.Need-code-requires

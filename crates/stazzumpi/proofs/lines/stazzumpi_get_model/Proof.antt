@@ -5,8 +5,8 @@ use Rattle.stazzumpi.proofs.lines.stazzumpi_get_model.Tie as tie
 use Rattle.stazzumpi.proofs.lines.stazzumpi_get_model.Reads as reads
 use Rattle.stazzumpi.proofs.lines.stazzumpi_get_model.Lts as lts
 use Rattle.script.proofs.get_model.Reads as get-model-reads
-use Rattle.stazzumpi.proofs.answer.code.Reads as code-reads
-use Rattle.stazzumpi.proofs.answer.tell_written.Reads as tell-written-reads
+use Rattle.told.proofs.code.Reads as code-reads
+use Rattle.told.proofs.tell_written.Reads as tell-written-reads
 
 -- src/lines.rt:96:9
 code-requires : tie.Need-code-requires

@@ -5,8 +5,8 @@ use Rattle.stazzumpi.proofs.lines.stazzumpi_set_logic.Tie as tie
 use Rattle.stazzumpi.proofs.lines.stazzumpi_set_logic.Reads as reads
 use Rattle.stazzumpi.proofs.lines.stazzumpi_set_logic.Lts as lts
 use Rattle.script.proofs.set_logic.Reads as set-logic-reads
-use Rattle.stazzumpi.proofs.answer.code.Reads as code-reads
-use Rattle.stazzumpi.proofs.answer.tell_written.Reads as tell-written-reads
+use Rattle.told.proofs.code.Reads as code-reads
+use Rattle.told.proofs.tell_written.Reads as tell-written-reads
 
 -- src/lines.rt:19:9
 code-requires : tie.Need-code-requires

@@ -5,8 +5,8 @@ use Rattle.stazzumpi.proofs.lines.stazzumpi_set_option.Tie as tie
 use Rattle.stazzumpi.proofs.lines.stazzumpi_set_option.Reads as reads
 use Rattle.stazzumpi.proofs.lines.stazzumpi_set_option.Lts as lts
 use Rattle.script.proofs.set_option.Reads as set-option-reads
-use Rattle.stazzumpi.proofs.answer.code.Reads as code-reads
-use Rattle.stazzumpi.proofs.answer.tell_written.Reads as tell-written-reads
+use Rattle.told.proofs.code.Reads as code-reads
+use Rattle.told.proofs.tell_written.Reads as tell-written-reads
 
 -- src/lines.rt:35:9
 code-requires : tie.Need-code-requires

@@ -4,31 +4,31 @@ use Rattle.stazzumpi.proofs.lookups.stazzumpi_find_function.Statement.{
 use Rattle.stazzumpi.proofs.lookups.stazzumpi_find_function.Tie as tie
 use Rattle.stazzumpi.proofs.lookups.stazzumpi_find_function.Reads as reads
 use Rattle.stazzumpi.proofs.lookups.stazzumpi_find_function.Lts as lts
-use Rattle.stazzumpi.proofs.answer.code.Reads as code-reads
-use Rattle.stazzumpi.proofs.lookups.tell_found.Reads as tell-found-reads
+use Rattle.told.proofs.code.Reads as code-reads
+use Rattle.told.proofs.tell_found.Reads as tell-found-reads
 use Rattle.tables.proofs.find_function.Reads as find-function-reads
 
--- src/lookups.rt:56:9
+-- src/lookups.rt:37:9
 code-requires : tie.Need-code-requires
 code-requires c κs = search needs
 
--- src/lookups.rt:56:9
+-- src/lookups.rt:37:9
 returns : tie.Need-returns
 returns c = promises-short _ _ _ _ _ _ (c .before .if1 .taken) (c .code .ensures)
 
--- src/lookups.rt:58:9
+-- src/lookups.rt:39:9
 find-function-requires : tie.Need-find-function-requires
 find-function-requires c κs = search needs
 
--- src/lookups.rt:59:5
+-- src/lookups.rt:40:5
 tell-found-requires : tie.Need-tell-found-requires
 tell-found-requires c κs = search needs
 
--- src/lookups.rt:46:1
+-- src/lookups.rt:27:1
 same-length : tie.Need-same-length
 same-length c = search needs
 
--- src/lookups.rt:46:1
+-- src/lookups.rt:27:1
 returns-2 : tie.Need-returns-2
 returns-2 c = promises-call _ _ _ _ _ (c .before .before .before .before .before .if1 .left) (c .before .before .before .before .find-function .ensures) (c .before .before .tell-found .ensures)
 

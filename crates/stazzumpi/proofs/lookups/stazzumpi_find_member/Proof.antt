@@ -4,31 +4,31 @@ use Rattle.stazzumpi.proofs.lookups.stazzumpi_find_member.Statement.{st
 use Rattle.stazzumpi.proofs.lookups.stazzumpi_find_member.Tie as tie
 use Rattle.stazzumpi.proofs.lookups.stazzumpi_find_member.Reads as reads
 use Rattle.stazzumpi.proofs.lookups.stazzumpi_find_member.Lts as lts
-use Rattle.stazzumpi.proofs.answer.code.Reads as code-reads
-use Rattle.stazzumpi.proofs.lookups.tell_found.Reads as tell-found-reads
+use Rattle.told.proofs.code.Reads as code-reads
+use Rattle.told.proofs.tell_found.Reads as tell-found-reads
 use Rattle.tables.proofs.find_member.Reads as find-member-reads
 
--- src/lookups.rt:72:9
+-- src/lookups.rt:53:9
 code-requires : tie.Need-code-requires
 code-requires c κs = search needs
 
--- src/lookups.rt:72:9
+-- src/lookups.rt:53:9
 returns : tie.Need-returns
 returns c = promises-short _ _ _ _ _ _ (c .before .if1 .taken) (c .code .ensures)
 
--- src/lookups.rt:74:9
+-- src/lookups.rt:55:9
 find-member-requires : tie.Need-find-member-requires
 find-member-requires c κs = search needs
 
--- src/lookups.rt:75:5
+-- src/lookups.rt:56:5
 tell-found-requires : tie.Need-tell-found-requires
 tell-found-requires c κs = search needs
 
--- src/lookups.rt:62:1
+-- src/lookups.rt:43:1
 same-length : tie.Need-same-length
 same-length c = search needs
 
--- src/lookups.rt:62:1
+-- src/lookups.rt:43:1
 returns-2 : tie.Need-returns-2
 returns-2 c = promises-call _ _ _ _ _ (c .before .before .before .before .before .if1 .left) (c .before .before .before .before .find-member .ensures) (c .before .before .tell-found .ensures)
 

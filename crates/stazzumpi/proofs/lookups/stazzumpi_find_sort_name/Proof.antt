@@ -4,31 +4,31 @@ use Rattle.stazzumpi.proofs.lookups.stazzumpi_find_sort_name.Statement.
 use Rattle.stazzumpi.proofs.lookups.stazzumpi_find_sort_name.Tie as tie
 use Rattle.stazzumpi.proofs.lookups.stazzumpi_find_sort_name.Reads as reads
 use Rattle.stazzumpi.proofs.lookups.stazzumpi_find_sort_name.Lts as lts
-use Rattle.stazzumpi.proofs.answer.code.Reads as code-reads
-use Rattle.stazzumpi.proofs.lookups.tell_found.Reads as tell-found-reads
+use Rattle.told.proofs.code.Reads as code-reads
+use Rattle.told.proofs.tell_found.Reads as tell-found-reads
 use Rattle.tables.proofs.find_sort_name.Reads as find-sort-name-reads
 
--- src/lookups.rt:89:9
+-- src/lookups.rt:70:9
 code-requires : tie.Need-code-requires
 code-requires c κs = search needs
 
--- src/lookups.rt:89:9
+-- src/lookups.rt:70:9
 returns : tie.Need-returns
 returns c = promises-short _ _ _ _ _ _ (c .before .if1 .taken) (c .code .ensures)
 
--- src/lookups.rt:91:9
+-- src/lookups.rt:72:9
 find-sort-name-requires : tie.Need-find-sort-name-requires
 find-sort-name-requires c κs = search needs
 
--- src/lookups.rt:92:5
+-- src/lookups.rt:73:5
 tell-found-requires : tie.Need-tell-found-requires
 tell-found-requires c κs = search needs
 
--- src/lookups.rt:79:1
+-- src/lookups.rt:60:1
 same-length : tie.Need-same-length
 same-length c = search needs
 
--- src/lookups.rt:79:1
+-- src/lookups.rt:60:1
 returns-2 : tie.Need-returns-2
 returns-2 c = promises-call _ _ _ _ _ (c .before .before .before .before .before .if1 .left) (c .before .before .before .before .find-sort-name .ensures) (c .before .before .tell-found .ensures)
 

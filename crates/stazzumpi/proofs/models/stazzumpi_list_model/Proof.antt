@@ -5,8 +5,8 @@ use Rattle.stazzumpi.proofs.models.stazzumpi_list_model.Tie as tie
 use Rattle.stazzumpi.proofs.models.stazzumpi_list_model.Reads as reads
 use Rattle.stazzumpi.proofs.models.stazzumpi_list_model.Lts as lts
 use Rattle.listing.proofs.list_model.Reads as list-model-reads
-use Rattle.stazzumpi.proofs.answer.code.Reads as code-reads
-use Rattle.stazzumpi.proofs.answer.tell_written.Reads as tell-written-reads
+use Rattle.told.proofs.code.Reads as code-reads
+use Rattle.told.proofs.tell_written.Reads as tell-written-reads
 
 -- src/models.rt:24:9
 code-requires : tie.Need-code-requires

@@ -4,8 +4,8 @@ use Rattle.stazzumpi.proofs.text.stazzumpi_decode_string.Statement.{sta
 use Rattle.stazzumpi.proofs.text.stazzumpi_decode_string.Tie as tie
 use Rattle.stazzumpi.proofs.text.stazzumpi_decode_string.Reads as reads
 use Rattle.stazzumpi.proofs.text.stazzumpi_decode_string.Lts as lts
-use Rattle.stazzumpi.proofs.answer.code.Reads as code-reads
-use Rattle.stazzumpi.proofs.answer.tell_written.Reads as tell-written-reads
+use Rattle.told.proofs.code.Reads as code-reads
+use Rattle.told.proofs.tell_written.Reads as tell-written-reads
 use Rattle.strings.proofs.decode_string.Reads as decode-string-reads
 
 -- src/text.rt:16:9

@@ -5,30 +5,30 @@ use Rattle.stazzumpi.proofs.trees.stazzumpi_check_arena.Tie as tie
 use Rattle.stazzumpi.proofs.trees.stazzumpi_check_arena.Reads as reads
 use Rattle.stazzumpi.proofs.trees.stazzumpi_check_arena.Lts as lts
 use Rattle.arena_check.proofs.check_arena.Reads as check-arena-reads
-use Rattle.stazzumpi.proofs.answer.code.Reads as code-reads
-use Rattle.stazzumpi.proofs.trees.tell_checked.Reads as tell-checked-reads
+use Rattle.told.proofs.code.Reads as code-reads
+use Rattle.told.proofs.tell_checked.Reads as tell-checked-reads
 
--- src/trees.rt:64:9
+-- src/trees.rt:35:9
 code-requires : tie.Need-code-requires
 code-requires c κs = search needs
 
--- src/trees.rt:64:9
+-- src/trees.rt:35:9
 returns : tie.Need-returns
 returns c = promises-short _ _ _ _ _ _ (c .before .if1 .taken) (c .code .ensures)
 
--- src/trees.rt:66:9
+-- src/trees.rt:37:9
 check-arena-requires : tie.Need-check-arena-requires
 check-arena-requires c κs = search needs
 
--- src/trees.rt:67:5
+-- src/trees.rt:38:5
 tell-checked-requires : tie.Need-tell-checked-requires
 tell-checked-requires c κs = search needs
 
--- src/trees.rt:59:1
+-- src/trees.rt:30:1
 same-length : tie.Need-same-length
 same-length c = search needs
 
--- src/trees.rt:59:1
+-- src/trees.rt:30:1
 returns-2 : tie.Need-returns-2
 returns-2 c = promises-call _ _ _ _ _ (c .before .before .before .before .before .if1 .left) (c .before .before .before .before .check-arena .ensures) (c .before .before .tell-checked .ensures)
 

@@ -1,0 +1,5 @@
+pub mod Limits
+pub mod Rises
+pub mod Trails
+pub mod Sizes
+pub mod Spaces

@@ -1,0 +1,3 @@
+pub mod Limit
+pub mod Parts
+pub mod Texts
