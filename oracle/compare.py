@@ -17,8 +17,8 @@ from asking import ROOT, answers, with_room  # noqa: E402
 
 VECTORS = ROOT / "vectors"
 sys.path.append(str(VECTORS))
-from cases import lines, models, strings, trees  # noqa: E402
-from lists import read  # noqa: E402
+from cases import lines, models, refusals, strings, trees  # noqa: E402
+from lists import files, read, rows  # noqa: E402
 
 SHOWN = 5
 # Widths up to which every pair of operands is tried, and the longest real model that is damaged.
@@ -51,8 +51,17 @@ def stale(name, mode):
     return fresh != kept
 
 
+def unlisted():
+    """Whether the calls of docs/REFUSALS.md are not those that the gate makes."""
+    calls = refusals.cases()
+    if rows(files("listings")[0])[:len(calls)] != calls:
+        print("the first cases of listings are not the calls of docs/REFUSALS.md")
+        return True
+    return False
+
+
 def lists():
-    faults = 0
+    faults = int(unlisted())
     for name, mode in (("strings", "strings"), ("trees", "trees"), ("lines", "lines"), ("listings", "listings")):
         faults += stale(name, mode)
         faults += compared(mode, read(name)[0], name)

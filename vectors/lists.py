@@ -13,7 +13,7 @@ REPLAYED = {name: (CRATES / program / "stdin", CRATES / program / "stdout")
                 ("listings", "replay_listings"))}
 DIFFER = HERE / "listings" / "differ.out"
 # Refusals that the crate knows nothing of: it is not asked for these.
-OURS = (9, 10, 11, 12, 25, 26)
+OURS = (9, 10, 11, 12, 25, 26, 27)
 
 
 def files(name):

@@ -13,7 +13,7 @@ HERE = Path(__file__).resolve().parent
 sys.path.append(str(HERE.parent / "oracle"))
 import walk  # noqa: E402  (the path above has to come first)
 from asking import answers, with_room  # noqa: E402
-from cases import ends, known, leaves, levels, limits, lines, listed, listings, readings, repeats, rooms, strings, tables, trees  # noqa: E402
+from cases import ends, known, leaves, levels, limits, lines, listed, listings, readings, refusals, repeats, rooms, strings, tables, trees  # noqa: E402
 from lists import DIFFER, OURS, asked, files, told  # noqa: E402
 
 SEED = 20261115
@@ -88,6 +88,7 @@ def listing_ranges(rng):
     replies = [listed.case("L" if path.parent.name in LARGER else "M", (path.parent / "tables.txt").read_bytes(), path.read_bytes()[:MOST_READ])
                for path in real("model")]
     return [
+        ("the smallest call for each number, 1 to 28, as docs/REFUSALS.md has them", refusals.cases()),
         ("document 01's sample and the edges of its rules, where one might doubt that the crate's answer is document 01's",
          [f"M {case}" for case in edges]),
         ("random tables and models on which the crate's answer is document 01's, a few for each answer, by the seed", alike),

@@ -1,7 +1,8 @@
 """Cases of the program that replays listings, and what it prints, by the second reading of document 01.
 
-A case is `M` or `L`, tables.txt and the reply in hexadecimal, `-` for an empty one, a space between two: `M` has the rooms of
-program `modellist`, `L` larger ones. The answer ends with an empty line.
+A case is a letter, tables.txt and the reply in hexadecimal, `-` for an empty one, a space between two: `M` has the rooms of
+program `modellist`, `L` larger ones; of these `N` lacks the nodes, `T` the text, `S` the bracket stack, `O` the output; `A` is the
+walk over no tables, no words and no text. The answer ends with an empty line.
 """
 
 from typing import NamedTuple
@@ -20,7 +21,10 @@ class Rooms(NamedTuple):
     depth: int
 
 
-ROOMS = {"M": Rooms(2_048, 65_536, 65_536, 4_096), "L": Rooms(16_384, 65_536, 65_536, 8_192)}
+LARGER = Rooms(16_384, 65_536, 65_536, 8_192)
+ROOMS = {"M": Rooms(2_048, 65_536, 65_536, 4_096), "L": LARGER, "N": LARGER._replace(nodes=0), "T": LARGER._replace(text=0),
+         "S": LARGER._replace(depth=0), "O": LARGER._replace(out=0)}
+NO_WORDS = "A"
 
 
 def case(rooms, tables, reply):
@@ -56,8 +60,10 @@ def walked(rooms, tables, reply):
 def printed(line):
     """What is printed for a case."""
     letter, tables, reply = parts(line)
-    rooms = ROOMS[letter]
     try:
+        if letter == NO_WORDS:
+            raise reading.Refused(27)
+        rooms = ROOMS[letter]
         found = walked(rooms, tables, reply)
         listing, need = (found.listing(kept).encode() for kept in (False, True))
         fitting(26, len(need), rooms.out)

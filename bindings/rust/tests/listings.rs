@@ -133,7 +133,7 @@ fn bytes(hex: &str) -> Vec<u8> {
     (0..hex.len()).step_by(2).map(|at| u8::from_str_radix(&hex[at..at + 2], 16).expect("a pair of digits")).collect()
 }
 
-/// The list of vectors/README.md, but for refusals that hang on the rooms of the program that replays it.
+/// The list of vectors/README.md, but for refusals that hang on what the program that replays it lends.
 #[test]
 fn as_document_01_has_it() {
     let cases = include_str!("../../../crates/replay_listings/stdin").lines();
@@ -144,7 +144,7 @@ fn as_document_01_has_it() {
         let got = list(&tables, &reply);
         if let Some(refused) = answer.strip_prefix("refused=") {
             let number: u8 = refused.lines().next().and_then(|number| number.parse().ok()).expect("a number");
-            if ![9, 10, 11, 12, 26].contains(&number) {
+            if ![9, 10, 11, 12, 26, 27].contains(&number) {
                 assert_eq!(got.map_err(Refusal::number), Err(number), "{case}");
             }
         } else {

@@ -1,4 +1,4 @@
-// One case: `M` for the program's rooms or `L` for larger ones, the tables' text and the reply, in hexadecimal.
+// One case: `M` for the program's rooms, `L` for larger ones or another letter for what is not lent, the tables' text and the reply, in hexadecimal.
 use crate::rooms::show_case;
 
 pub fn answer(

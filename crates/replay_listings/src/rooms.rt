@@ -6,8 +6,35 @@ ghost use lib.ListN.{length};
 // The number of 26.
 const OUT_ROOM: u64 = 26;
 
-// What is printed, in the program's rooms by the function behind it.
-fn print(
+// How much of a room is lent: nothing of the one that the case's letter names.
+fn room(kind: u8, letter: u8, whole: usize) -> usize
+    ensures { λ r. ⌜ r ≤ whole ⌝ }
+{
+    if kind == letter {
+        return 0;
+    }
+    whole
+}
+
+// The listing of no tables and no words, which are no arena.
+fn list_nothing(out: &mut [u8]) -> Written {
+    let words: [u64; 0] = [];
+    let bytes: [u8; 0] = [];
+    listing::list_model(
+        &words,
+        &words,
+        &words,
+        &words,
+        &words,
+        &bytes,
+        &words,
+        &bytes,
+        out,
+    )
+}
+
+// In the rooms that are lent, but for the one that the letter takes away.
+fn list_less(
     kind: u8,
     tables: &[u8],
     reply: &[u8],
@@ -15,15 +42,20 @@ fn print(
     text: &mut [u8],
     stack: &mut [u64],
     out: &mut [u8],
-) -> usize {
-    if kind == b'M' {
-        return reply::print_reply(tables, reply, out);
-    }
-    let answer = reply::list_in(tables, reply, nodes, text, stack, out);
-    match answer {
-        Written::Length(count) => count,
-        Written::Refused(why) => reply::put_refusal(why, out),
-    }
+) -> Written {
+    let zero = 0;
+    let words = room(kind, b'N', nodes.len());
+    let bytes = room(kind, b'T', text.len());
+    let depth = room(kind, b'S', stack.len());
+    let length = room(kind, b'O', out.len());
+    reply::list_in(
+        tables,
+        reply,
+        &mut nodes[zero..words],
+        &mut text[zero..bytes],
+        &mut stack[zero..depth],
+        &mut out[zero..length],
+    )
 }
 
 fn list(
@@ -38,7 +70,30 @@ fn list(
     if kind == b'M' {
         return reply::list_reply(tables, reply, out);
     }
-    reply::list_in(tables, reply, nodes, text, stack, out)
+    if kind == b'A' {
+        return list_nothing(out);
+    }
+    list_less(kind, tables, reply, nodes, text, stack, out)
+}
+
+// What is printed, in the program's rooms by the function behind it.
+fn print(
+    kind: u8,
+    tables: &[u8],
+    reply: &[u8],
+    nodes: &mut [u64],
+    text: &mut [u8],
+    stack: &mut [u64],
+    out: &mut [u8],
+) -> usize {
+    if kind == b'M' {
+        return reply::print_reply(tables, reply, out);
+    }
+    let answer = list(kind, tables, reply, nodes, text, stack, out);
+    match answer {
+        Written::Length(count) => count,
+        Written::Refused(why) => reply::put_refusal(why, out),
+    }
 }
 
 // What an answer tells: a length, or a refusal's detail.
@@ -98,7 +153,7 @@ fn show_rooms(
     show_told(need, full, short, line);
 }
 
-// The need of a listing is what it tells in no room.
+// The need of a listing is what it tells in no room, where a room is lent at all.
 fn show_need(
     kind: u8,
     tables: &[u8],
@@ -109,6 +164,9 @@ fn show_need(
     out: &mut [u8],
     line: &mut [u8],
 ) {
+    if kind == b'O' {
+        return;
+    }
     let zero = 0;
     let none = list(
         kind,
