@@ -1,14 +1,14 @@
 -- Texts compared a byte at a time.
 -- Assumes nothing.
 use mathlib.Core.Path.{_≡_, refl, sym, ap, _∙_}
-use mathlib.Core.Bool.{Bool, true, false, true≢false, _&&_}
+use mathlib.Core.Bool.{Bool, true, false, true≢false, _&&_, and-assoc}
 use mathlib.Core.List.{List, [], _∷_}
 use Prim.Native.Nat.{ℕ, suc, _+_, _≤_, _<_}
 use lib.Dec.{eqb}
 use lib.ListN.{length, getD, drop}
 use lib.Seq.{drop-length}
 use borrow.Author.Tests.{eq-eqb, ne-eqb, eqb-true, le-leb, lt-leb}
-use Rattle.ground.proofs.Tests.{by-test, and-false}
+use Rattle.ground.proofs.Tests.{by-test, and-false, and-true}
 use Rattle.ground.proofs.Lists.{at-place}
 use Rattle.arena.specs.Text.{textAt, sameText, textIs}
 
@@ -20,14 +20,6 @@ same-lengths (x ∷ xs) [] h = refl
 same-lengths (x ∷ xs) (y ∷ ys) h =
     sym (and-false (eqb x y)) ∙ ap (λ (t : Bool). eqb x y && t) (same-lengths xs ys (λ e. h (ap suc e)))
 
-and-assoc : (x y z : Bool) → (x && (y && z)) ≡ ((x && y) && z)
-and-assoc true y z = refl
-and-assoc false y z = refl
-
-and-true : (x : Bool) → (x && true) ≡ x
-and-true true = refl
-and-true false = refl
-
 module _ (a b : List ℕ) (i : ℕ) (inside : i < length a) (within : i < length b) where
   same-step : sameText (drop i a) (drop i b) ≡ (eqb (getD a i 0) (getD b i 0) && sameText (drop (i + 1) a) (drop (i + 1) b))
   unfolding sameText
@@ -37,7 +29,7 @@ module _ (a b : List ℕ) (i : ℕ) (inside : i < length a) (within : i < length
   pub same-onward : (all next : Bool) → next ≡ (all && eqb (getD a i 0) (getD b i 0)) → (all && sameText (drop i a) (drop i b)) ≡ (next && sameText (drop (i + 1) a) (drop (i + 1) b))
   same-onward all next e =
       ap (λ (t : Bool). all && t) same-step
-      ∙ and-assoc all (eqb (getD a i 0) (getD b i 0)) (sameText (drop (i + 1) a) (drop (i + 1) b))
+      ∙ sym (and-assoc all (eqb (getD a i 0) (getD b i 0)) (sameText (drop (i + 1) a) (drop (i + 1) b)))
       ∙ ap (λ (t : Bool). t && sameText (drop (i + 1) a) (drop (i + 1) b)) (sym e)
 
   pub same-stop : (getD a i 0 ≡ getD b i 0 → ⊥) → sameText (drop i a) (drop i b) ≡ false

@@ -1,52 +1,31 @@
 -- Arms by repetition, each laid as a record: what is left of a body, and that all are laid once the rest is.
 -- Assumes nothing.
-use mathlib.Core.Path.{_≡_, refl, sym, ap, _∙_, subst}
+use mathlib.Core.Path.{_≡_, sym, subst}
 use mathlib.Core.List.{List, []}
 use mathlib.Core.Option.{none, some}
 use Prim.Native.Nat.{ℕ, _≤_}
 use native.Mathlib.Omega.{arith}
 use lib.ListN.{length}
 use Rattle.refusals.specs.declared.Refusal.the-variants.{UnmatchedType, UnexpectedForm}
-use Rattle.order.proofs.Everies.{every-head, every-tail}
-use Rattle.runs.specs.Run.{run}
 use Rattle.arena.specs.Tree.{Tree}
 use Rattle.tables.specs.Layout.{Lent, tablesOf}
 use Rattle.tables.specs.Sort.{Tables}
 use Rattle.shapes.specs.Shows.{Standing, Reads}
 use Rattle.sorts.specs.Result.{ok}
 use Rattle.sorts.specs.Sort.{levels}
-use Rattle.values.specs.HasSort.{HasSort, Loose}
 use Rattle.literals.specs.Literal.{Lit, read}
 use Rattle.meaning.proofs.Results.{ok-same, went, passed, was-found}
 use Rattle.value_text.specs.Value.{Given}
-use Rattle.value_text.proofs.Lays.{lays-none}
 use Rattle.commands.specs.declared.chain.LinkFound.{LinkFound}
 use Rattle.commands.specs.Command.{Chain, chain, default, arm, key}
 use Rattle.commands.specs.LinkShows.{LinkShows, LinkAt}
-use Rattle.commands.proofs.Links.{standing-within}
-use Rattle.model.specs.Model.{Arm, armOf, Table, tableOf, push, readChain}
+use Rattle.commands.proofs.Links.{standing-within, shown-link}
+use Rattle.model.specs.Model.{armOf, Table, tableOf, push, readChain}
 use Rattle.demand.specs.Fits.{TableFits}
 use Rattle.arms.specs.declared.chain.Chained.{Chained}
 use Rattle.arms.specs.Arm.{WritesArm}
 use Rattle.arms.specs.Walk.{LaysArms, WritesChain}
-use Rattle.arms.proofs.Whens.{lays-more}
-
--- a table with one more arm in front fits
-pub record FitsMore (T : Tables) (argument result : ℕ) (a : Arm) (below : Table) : Type 0 where
-  pub keys : HasSort (a .«when») Loose T argument
-  pub values : HasSort (a .«then») Loose T result
-  pub below-fits : TableFits T argument result below
-
-pub fits-more : (T : Tables) (argument result : ℕ) (a : Arm) (below : Table) → TableFits T argument result (push a below) → FitsMore T argument result a below
-fits-more T argument result a below f = record {
-  keys = every-head (λ (y : Arm). HasSort (y .«when») Loose T argument) a (below .arms) (f .keys);
-  values = every-head (λ (y : Arm). HasSort (y .«then») Loose T result) a (below .arms) (f .values);
-  below-fits = record {
-    keys = every-tail (λ (y : Arm). HasSort (y .«when») Loose T argument) a (below .arms) (f .keys);
-    values = every-tail (λ (y : Arm). HasSort (y .«then») Loose T result) a (below .arms) (f .values);
-    default = f .default;
-  };
-}
+use Rattle.arms.proofs.Rests.{Rest, rest-start, rest-end, rest-else, key-fits, value-fits, rest-more}
 
 -- what a chain with one more arm in front is read as
 record Opened (T : Tables) (x : List ℕ) (argument result : ℕ) (b c : Tree) (rest : Chain) (table : Table) : Type 0 where
@@ -86,9 +65,7 @@ pub record Going (T : Tables) (x ws ts : List ℕ) (argument result : ℕ) (tabl
   pub there : Standing here ws ts at
   pub left : Table
   pub reads : readChain T x argument result (chain here) ≡ ok left
-  pub fits : TableFits T argument result left
-  pub same : left .«else» ≡ table .«else»
-  pub onwards : (exit : List ℕ) (r : ℕ) → LaysArms (left .arms) out exit to r → LaysArms (table .arms) entry exit place r
+  pub rest : Rest T argument result table entry place out to left
 
 module _ (sorts members names ws ts : List ℕ) (offset size body : ℕ) (entry : List ℕ) (place : ℕ) where
   abbrev pub GoingAt : List ℕ → ℕ → ℕ → Type 0
@@ -98,7 +75,7 @@ module _ (sorts members names ws ts : List ℕ) (offset size body : ℕ) (entry 
       Going (tablesOf l) x ws ts argument result table entry place out to at
 
   pub chain-start : GoingAt entry place body
-  chain-start l g x t argument result table r s e f = record { here = t; there = s; left = table; reads = e; fits = f; same = refl; onwards = λ exit n h. h }
+  chain-start l g x t argument result table r s e f = record { here = t; there = s; left = table; reads = e; rest = rest-start (tablesOf l) argument result table entry place f }
 
   module _ (out : List ℕ) (to at : ℕ) (h : GoingAt out to at) where
     -- a tree stands within the words
@@ -110,10 +87,10 @@ module _ (sorts members names ws ts : List ℕ) (offset size body : ℕ) (entry 
 
     module _ (q : LinkFound) (k : LinkAt ws ts at q) where
       pub chain-end : q ≡ LinkFound.Default → (c : Chained) → c .node ≡ at → c .place ≡ to → WritesChain sorts members names ws ts offset size body entry out place c
-      unfolding readChain run
+      unfolding readChain
       chain-end d c n p l g x t argument result table r s e f =
           let w = h l g x t argument result table r s e f in
-          let z : chain (w .here) ≡ default (w .here) = subst (λ (y : LinkFound). LinkShows ws ts at y (w .here)) d (k (w .here) (w .there)) in
+          let z : chain (w .here) ≡ default (w .here) = shown-link ws ts at q LinkFound.Default d k (w .here) (w .there) in
           let m : readChain (tablesOf l) x argument result (default (w .here)) ≡ ok (w .left) = subst (λ (y : Chain). readChain (tablesOf l) x argument result y ≡ ok (w .left)) z (w .reads) in
           let v = went _ _ (w .left) m in
           let u = passed _ UnmatchedType _ (w .left) (v .next) in
@@ -121,19 +98,19 @@ module _ (sorts members names ws ts : List ℕ) (offset size body : ℕ) (entry 
           record {
             arms =
                 subst (λ (j : ℕ). LaysArms (table .arms) entry out place j) (sym p)
-                (w .onwards out to (subst (λ (y : Table). LaysArms (y .arms) out out to to) i (lays-none out to)));
+                (rest-end (tablesOf l) argument result table entry place out to (w .left) (w .rest) (v .got .value) i);
             default = record {
               tree = w .here;
               stands = subst (λ (j : ℕ). Standing (w .here) ws ts j) (sym n) (w .there);
               lit = v .got;
               was = v .first;
-              is = ap (λ (y : Table). y .«else») i ∙ w .same;
+              is = rest-else (tablesOf l) argument result table entry place out to (w .left) (w .rest) (v .got .value) i;
             };
           }
 
       module _ (test value rest : ℕ) (d : q ≡ LinkFound.Arm test value rest) where
         shown : (t : Tree) → Standing t ws ts at → LinkShows ws ts at (LinkFound.Arm test value rest) t
-        shown t s = subst (λ (y : LinkFound). LinkShows ws ts at y t) d (k t s)
+        shown t s = shown-link ws ts at q (LinkFound.Arm test value rest) d k t s
 
         -- what follows an arm stands behind it
         pub chain-behind : rest ≤ at → (exit : List ℕ) (c : Chained) → WritesChain sorts members names ws ts offset size body entry exit place c
@@ -149,16 +126,15 @@ module _ (sorts members names ws ts : List ℕ) (offset size body : ℕ) (entry 
                 Opened (tablesOf l) x argument result u c (chain d) (w .left) → Going (tablesOf l) x ws ts argument result table entry place b next rest
             after w u c d su sc sd o =
                 let one = armOf (o .keyed .value) (o .valued .value) in
-                let fit = fits-more (tablesOf l) argument result one (o .below) (subst (TableFits (tablesOf l) argument result) (sym (o .is)) (w .fits)) in
-                let put = laid l g x u (o .node) (o .keyed) argument r su (o .found) (o .keyed-was) (fit .keys) c (some result) (o .valued) result sc (o .valued-was) (fit .values) in
+                let keys = key-fits (tablesOf l) argument result table entry place out to (w .left) (w .rest) one (o .below) (o .is) in
+                let values = value-fits (tablesOf l) argument result table entry place out to (w .left) (w .rest) one (o .below) (o .is) in
+                let put = laid l g x u (o .node) (o .keyed) argument r su (o .found) (o .keyed-was) keys c (some result) (o .valued) result sc (o .valued-was) values in
                 record {
                   here = d;
                   there = sd;
                   left = o .below;
                   reads = o .below-was;
-                  fits = fit .below-fits;
-                  same = ap (λ (y : Table). y .«else») (o .is) ∙ w .same;
-                  onwards = λ exit j i. w .onwards exit j (subst (λ (y : Table). LaysArms (y .arms) out exit to j) (o .is) (lays-more one (o .below .arms) put i));
+                  rest = rest-more (tablesOf l) argument result table entry place out to (w .left) (w .rest) one (o .below) (o .is) b next put;
                 }
 
             go : Going (tablesOf l) x ws ts argument result table entry place out to at → Going (tablesOf l) x ws ts argument result table entry place b next rest

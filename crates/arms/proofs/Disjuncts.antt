@@ -1,13 +1,12 @@
 -- The tests of an `or` body, each laid as a record: what is left of them, and that all are laid once the rest is.
 -- Assumes nothing.
-use mathlib.Core.Path.{_≡_, refl, sym, ap, _∙_, subst}
+use mathlib.Core.Path.{_≡_, refl, ap, _∙_, subst}
 use mathlib.Core.Bool.{true, false}
 use mathlib.Core.List.{List, []}
 use mathlib.Core.Option.{none, some}
 use Prim.Native.Nat.{ℕ, _+_, _-_, _≤_, _<_}
 use native.Mathlib.Omega.{arith}
 use Rattle.refusals.specs.declared.Refusal.the-variants.{UnmatchedType, UnexpectedForm}
-use Rattle.runs.specs.Run.{run}
 use Rattle.arena.specs.Node.{afterAt}
 use Rattle.arena.specs.Tree.{Tree, Trees, nil, cons, count}
 use Rattle.tables.specs.Layout.{Lent, tablesOf}
@@ -20,14 +19,12 @@ use Rattle.values.specs.Value.{vBool}
 use Rattle.literals.specs.Literal.{Lit, read}
 use Rattle.meaning.proofs.Results.{ok-same, went, passed, was-found}
 use Rattle.value_text.specs.Value.{Given}
-use Rattle.value_text.proofs.Lays.{lays-none}
 use Rattle.commands.specs.Command.{key}
 use Rattle.model.specs.Model.{armOf, Table, tableOf, push, readTests}
 use Rattle.demand.specs.Fits.{TableFits}
 use Rattle.arms.specs.Arm.{WritesTest}
 use Rattle.arms.specs.Walk.{LaysArms, WritesTests}
-use Rattle.arms.proofs.Whens.{lays-more}
-use Rattle.arms.proofs.Chains.{fits-more}
+use Rattle.arms.proofs.Rests.{Rest, rest-start, rest-end, key-fits, rest-more}
 
 -- what tests with one more in front are read as
 record Opened (T : Tables) (x : List ℕ) (argument result : ℕ) (b : Tree) (us : Trees) (table : Table) : Type 0 where
@@ -69,8 +66,7 @@ pub record Going (T : Tables) (x ws ts : List ℕ) (argument result : ℕ) (tabl
   pub there : StandingAll others ws ts at still
   pub left : Table
   pub reads : readTests T x argument result others ≡ ok left
-  pub fits : TableFits T argument result left
-  pub onwards : (exit : List ℕ) (r : ℕ) → LaysArms (left .arms) out exit to r → LaysArms (table .arms) entry exit place r
+  pub rest : Rest T argument result table entry place out to left
 
 module _ (sorts members names ws ts : List ℕ) (offset size first many : ℕ) (entry : List ℕ) (place : ℕ) where
   abbrev pub GoingAt : List ℕ → ℕ → ℕ → ℕ → Type 0
@@ -82,11 +78,11 @@ module _ (sorts members names ws ts : List ℕ) (offset size first many : ℕ) (
   pub tests-start : GoingAt entry place first 0
   tests-start l g x us argument result table r s e f =
       let n : many ≡ many - 0 = omega arith in
-      record { others = us; there = subst (λ (j : ℕ). StandingAll us ws ts first j) n s; left = table; reads = e; fits = f; onwards = λ exit j h. h }
+      record { others = us; there = subst (λ (j : ℕ). StandingAll us ws ts first j) n s; left = table; reads = e; rest = rest-start (tablesOf l) argument result table entry place f }
 
   module _ (out : List ℕ) (to at i : ℕ) (h : GoingAt out to at i) where
     pub tests-end : many ≤ i → WritesTests sorts members names ws ts offset size first many entry out place to
-    unfolding readTests run
+    unfolding readTests
     tests-end done l g x us argument result table r s e f = go (h l g x us argument result table r s e f) (h l g x us argument result table r s e f .others) refl
       where
         go : (w : Going (tablesOf l) x ws ts argument result table entry place out to at (many - i)) (os : Trees) → w .others ≡ os → LaysArms (table .arms) entry out place to
@@ -94,7 +90,7 @@ module _ (sorts members names ws ts : List ℕ) (offset size first many : ℕ) (
         go w nil o =
             let m : readTests (tablesOf l) x argument result nil ≡ ok (w .left) = subst (λ (y : Trees). readTests (tablesOf l) x argument result y ≡ ok (w .left)) o (w .reads) in
             let k : tableOf [] (vBool false) ≡ w .left = ok-same m in
-            w .onwards out to (subst (λ (y : Table). LaysArms (y .arms) out out to to) k (lays-none out to))
+            rest-end (tablesOf l) argument result table entry place out to (w .left) (w .rest) (vBool false) k
 
     module _ (more : i < many) (b : List ℕ) (next : ℕ) (laid : WritesTest sorts members names ws ts offset size at out b to next) (after : ℕ) (a : after ≡ afterAt ws at) where
       pub tests-next : GoingAt b next after (i + 1)
@@ -106,13 +102,12 @@ module _ (sorts members names ws ts : List ℕ) (offset size first many : ℕ) (
               let st : StandingAll (cons u os) ws ts at (many - i) = subst (λ (y : Trees). StandingAll y ws ts at (many - i)) o (w .there) in
               let p = opened (tablesOf l) x argument result u os (w .left) (subst (λ (y : Trees). readTests (tablesOf l) x argument result y ≡ ok (w .left)) o (w .reads)) in
               let one = armOf (p .keyed .value) (vBool true) in
-              let fit = fits-more (tablesOf l) argument result one (p .below) (subst (TableFits (tablesOf l) argument result) (sym (p .is)) (w .fits)) in
-              let put = laid l g x u (p .node) (p .keyed) argument r (first-of ws ts u os at (many - i) st) (p .found) (p .keyed-was) (fit .keys) in
+              let keys = key-fits (tablesOf l) argument result table entry place out to (w .left) (w .rest) one (p .below) (p .is) in
+              let put = laid l g x u (p .node) (p .keyed) argument r (first-of ws ts u os at (many - i) st) (p .found) (p .keyed-was) keys in
               record {
                 others = os;
                 there = others-of ws ts u os at (many - i) st after (many - (i + 1)) a (omega arith);
                 left = p .below;
                 reads = p .below-was;
-                fits = fit .below-fits;
-                onwards = λ exit n q. w .onwards exit n (subst (λ (y : Table). LaysArms (y .arms) out exit to n) (p .is) (lays-more one (p .below .arms) put q));
+                rest = rest-more (tablesOf l) argument result table entry place out to (w .left) (w .rest) one (p .below) (p .is) b next put;
               }

@@ -1,5 +1,6 @@
 pub mod Records
 pub mod Whens
+pub mod Rests
 pub mod Chains
 pub mod Disjuncts
 pub mod Settles

@@ -10,7 +10,7 @@ use lib.Dec.{eqb, leb}
 use borrow.Author.Tests.{ne-eqb, leb-true}
 use Rattle.ground.specs.Bytes.{bytes}
 use Rattle.ground.specs.Lists.{all}
-use Rattle.utf8.proofs.Leads.{both-left, both-right}
+use Rattle.ground.proofs.Tests.{both-left, both-right}
 use Rattle.moves.specs.Replace.{replaced}
 use Rattle.order.specs.Order.{before, arranged}
 use Rattle.order.specs.Every.{Every, none, also}

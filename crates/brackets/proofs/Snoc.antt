@@ -1,4 +1,4 @@
--- One tree more at the end of a list of trees.
+-- One tree more at the end of a list of trees, and other trees after them.
 -- Assumes nothing.
 use mathlib.Core.Path.{_≡_, refl, sym, ap, _∙_}
 use mathlib.Core.List.{List, [], _∷_, _++_, append-assoc, append-nil}
@@ -31,3 +31,23 @@ wordsOf-snoc nil t n x = simp (append-nil, add-zero)
 wordsOf-snoc (cons k ks) t n x =
     rw (wordsOf-snoc ks t (n + nodes k) (x + length (text k)))
     (simp (append-assoc, length-append, add-assoc))
+
+-- trees after others
+abbrev pub chain : Trees → Trees → Trees
+chain nil ts = ts
+chain (cons k ks) ts = cons k (chain ks ts)
+
+pub chain-nil : (ks : Trees) → chain ks nil ≡ ks
+chain-nil nil = refl
+chain-nil (cons k ks) = ap (cons k) (chain-nil ks)
+
+pub chain-chain : (ks ts us : Trees) → chain (chain ks ts) us ≡ chain ks (chain ts us)
+chain-chain nil ts us = refl
+chain-chain (cons k ks) ts us = ap (cons k) (chain-chain ks ts us)
+
+pub chain-one : (ks : Trees) (t : Tree) → snoc ks t ≡ chain ks (cons t nil)
+chain-one nil t = refl
+chain-one (cons k ks) t = ap (cons k) (chain-one ks t)
+
+pub chain-snoc : (ks : Trees) (t : Tree) (ts : Trees) → chain (snoc ks t) ts ≡ chain ks (cons t ts)
+chain-snoc ks t ts = ap (λ (l : Trees). chain l ts) (chain-one ks t) ∙ chain-chain ks (cons t nil) ts

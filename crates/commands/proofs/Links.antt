@@ -31,6 +31,10 @@ standing-within (string t) ws ts at s = let z = node-within ws at (s .there .her
 standing-within (symbol t) ws ts at s = let z = node-within ws at (s .there .here) refl in omega arith
 standing-within (app us) ws ts at s = let z = node-within ws at (s .there .here) refl in omega arith
 
+-- what a step was seen as, said of the tree that stands there
+pub shown-link : (ws ts : List ℕ) (at : ℕ) (q p : LinkFound) → q ≡ p → LinkAt ws ts at q → LinkAt ws ts at p
+shown-link ws ts at q p e k t s = subst (λ (y : LinkFound). LinkShows ws ts at y t) e (k t s)
+
 pub chain-arm : (b c d : Tree) → chain (ite b c d) ≡ arm b c (chain d)
 unfolding chain sameText
 chain-arm b c d = refl

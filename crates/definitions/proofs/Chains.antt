@@ -1,6 +1,6 @@
 -- Arms by repetition: what is left of a body, and the arms before it.
 -- Assumes nothing.
-use mathlib.Core.Path.{_≡_, refl, sym, ap, _∙_, subst}
+use mathlib.Core.Path.{_≡_, refl, sym, ap, _∙_}
 use mathlib.Core.Bool.{Bool, true, false}
 use mathlib.Core.List.{List, [], _∷_, _++_, append-assoc, append-nil}
 use mathlib.Core.Option.{Option, none, some}
@@ -8,7 +8,6 @@ use Prim.Native.Nat.{ℕ, min, _+_, _≤_}
 use native.Mathlib.Omega.{arith}
 use lib.Dec.{eqb}
 use lib.ListN.{length, length-append}
-use Rattle.ground.specs.Bytes.{bytes}
 use Rattle.refusals.specs.declared.Refusal.{Refusal}
 use Rattle.refusals.specs.declared.Refusal.the-variants.{UnmatchedType, UnexpectedForm}
 use Rattle.arena.specs.Tree.{Tree}
@@ -27,9 +26,10 @@ use Rattle.literals.specs.Plan.{Given, DecodesAt}
 use Rattle.commands.specs.declared.chain.LinkFound.{LinkFound}
 use Rattle.commands.specs.Command.{Chain, arm, default, chain, key}
 use Rattle.commands.specs.LinkShows.{LinkShows, LinkAt}
-use Rattle.commands.proofs.Links.{standing-within}
+use Rattle.commands.proofs.Links.{standing-within, shown-link}
 use Rattle.model.specs.Model.{Arm, armOf, Table, tableOf, push, readChain}
 use Rattle.model.specs.Listing.{line, armLines}
+use Rattle.model.proofs.Lengths.{length-line}
 use Rattle.definitions.specs.declared.measure.Measured.{Measured}
 use Rattle.definitions.specs.Measure.{valueSize, armSize, tableSize, measured, readArm, closedAs, ValueOf, ArmAt, ChainAt}
 
@@ -95,10 +95,6 @@ pub was-need : {A : Type 0} (n : Result A) (size : A → ℕ) (long : ℕ) → M
 was-need (ok a) size long e = record { it = a; read = refl; size-is = cc }
 was-need (refused y) size long e = let q : _≡_ {A = ℕ} 0 1 = cc in absurd (omega arith)
 
--- the last line is six bytes and the value's text
-length-else : (s : List ℕ) → length (line "else" s) ≡ length s + 6
-length-else s = omega (arith, length-append s (bytes "\n"))
-
 closing : (n : Result Lit) (total : ℕ) (front : List Arm) (result : ℕ) → total ≡ capped (length (armLines front)) →
     closedAs total (measured valueSize (n >>= λ l. unless (eqb (l .row) result) UnmatchedType (ok (l .value))))
     ≡ measured tableSize ((n >>= λ l. unless (eqb (l .row) result) UnmatchedType (ok (tableOf [] (l .value)))) >>= λ table. ok (after front table))
@@ -106,7 +102,7 @@ unfolding _>>=_ unless
 closing (refused r) total front result e = refl
 closing (ok l) total front result e = go (eqb (l .row) result)
   where
-    sums : (t x v z : ℕ) → t ≡ min x 18446744073709551615 → z ≡ x + (v + 6) → min (min (t + min v 18446744073709551615) 18446744073709551615 + 6) 18446744073709551615 ≡ min z 18446744073709551615
+    sums : (t x v z : ℕ) → t ≡ min x 18446744073709551615 → z ≡ x + (4 + v + 2) → min (min (t + min v 18446744073709551615) 18446744073709551615 + 6) 18446744073709551615 ≡ min z 18446744073709551615
     sums t x v z a b = omega arith
 
     go : (b : Bool) → closedAs total (measured valueSize (unless b UnmatchedType (ok (l .value)))) ≡ measured tableSize ((unless b UnmatchedType (ok (tableOf [] (l .value)))) >>= λ table. ok (after front table))
@@ -116,7 +112,11 @@ closing (ok l) total front result e = go (eqb (l .row) result)
         (sums total (length (armLines front)) (length (text (l .value))) (tableSize (after front (tableOf [] (l .value)))) e
         (length-append (armLines (front ++ [])) (line "else" (text (l .value)))
         ∙ ap (λ (xs : List Arm). length (armLines xs) + length (line "else" (text (l .value)))) (append-nil front)
-        ∙ ap (λ (n : ℕ). length (armLines front) + n) (length-else (text (l .value)))))
+        ∙ ap (λ (n : ℕ). length (armLines front) + n) (length-line "else" (text (l .value)))))
+
+-- what was counted so far, and one thing more
+pub sums-more : (t n now x y z : ℕ) → t ≡ capped x → n ≡ capped y → now ≡ capped (t + n) → z ≡ x + y → now ≡ capped z
+sums-more t n now x y z a b c d = omega arith
 
 -- of the body t, the arms before are read, and what is left stands at a node
 pub record Left (T : Tables) (x : List ℕ) (argument result : ℕ) (t : Tree) (ws ts : List ℕ) (at total : ℕ) : Type 0 where
@@ -144,7 +144,7 @@ module _ (sorts fields members names ws ts : List ℕ) (offset size argument res
     module _ (q : LinkFound) (k : LinkAt ws ts at q) where
       module _ (test value rest : ℕ) (e : q ≡ LinkFound.Arm test value rest) (m : Measured) (a : ArmAt sorts fields members names ws ts offset size argument result test value m) where
         shown : (t : Tree) → Standing t ws ts at → LinkShows ws ts at (LinkFound.Arm test value rest) t
-        shown t s = subst (λ (y : LinkFound). LinkShows ws ts at y t) e (k t s)
+        shown t s = shown-link ws ts at q (LinkFound.Arm test value rest) e k t s
 
         -- the arm that was read, then what follows it
         opened : (l : Lent) (x : List ℕ) (t : Tree) (s : Standing t ws ts at) →
@@ -184,17 +184,14 @@ module _ (sorts fields members names ws ts : List ℕ) (offset size argument res
                   w .same ∙ ap (λ (n : Result Table). n >>= λ table. ok (after (w .front) table)) (opened l x (w .here) (w .there))
                   ∙ ap (λ (n : Result Arm). (n >>= λ y. readChain (tablesOf l) x argument result (chain (v .2)) >>= λ table. ok (push y table)) >>= λ table. ok (after (w .front) table)) (y .read)
                   ∙ bind-more (readChain (tablesOf l) x argument result (chain (v .2))) (w .front) (y .it);
-              sum = sums total long now (length (armLines (w .front))) (armSize (y .it)) (length (armLines (w .front ++ (y .it ∷ [])))) (w .sum) (y .size-is) i (lines-append (w .front) (y .it ∷ []));
+              sum = sums-more total long now (length (armLines (w .front))) (armSize (y .it)) (length (armLines (w .front ++ (y .it ∷ [])))) (w .sum) (y .size-is) i (lines-append (w .front) (y .it ∷ []));
             }
-          where
-            sums : (t n now x y z : ℕ) → t ≡ min x 18446744073709551615 → n ≡ min y 18446744073709551615 → now ≡ min (t + n) 18446744073709551615 → z ≡ x + y → now ≡ min z 18446744073709551615
-            sums t n now x y z a b c d = omega arith
 
       pub chain-end : q ≡ LinkFound.Default → (a : Literal) → DecodesAt sorts fields members names ws ts at (Expected.Row result) levels a → (m : Measured) → ValueOf a result m → (r : Measured) → r ≡ closedAs total m → ChainAt sorts fields members names ws ts offset size argument result body r
       unfolding _>>=_ readChain
       chain-end e a d m v r f l g x t z s =
           let w = h l g x t z s in
-          let c = subst (λ (y : LinkFound). LinkShows ws ts at y (w .here)) e (k (w .here) (w .there)) in
+          let c = shown-link ws ts at q LinkFound.Default e k (w .here) (w .there) in
           f ∙ ap (λ (n : Measured). closedAs total n) (v (read (tablesOf l) levels (some result) (w .here)) (d l g (w .here) (w .there)))
           ∙ closes (read (tablesOf l) levels (some result) (w .here)) total (w .front) (w .sum)
           ∙ sym (ap (λ (n : Result Table). measured tableSize n) (w .same ∙ ap (λ (y : Chain). readChain (tablesOf l) x argument result y >>= λ table. ok (after (w .front) table)) c))

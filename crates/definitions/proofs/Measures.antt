@@ -2,13 +2,12 @@
 -- Assumes nothing.
 use mathlib.Core.Path.{_≡_, refl, sym, ap, _∙_, subst}
 use mathlib.Core.Bool.{Bool, true, false, cond}
-use mathlib.Core.List.{List, [], _∷_, _++_}
+use mathlib.Core.List.{[], _∷_, _++_}
 use Prim.Native.Nat.{ℕ, min, _+_}
 use native.Mathlib.Omega.{arith}
 use lib.Dec.{eqb}
 use lib.ListN.{length, length-append}
 use borrow.Author.Tests.{eq-eqb, ne-eqb}
-use Rattle.ground.specs.Bytes.{bytes}
 use Rattle.refusals.specs.declared.Refusal.{Refusal}
 use Rattle.refusals.specs.declared.Refusal.the-variants.{UnmatchedType}
 use Rattle.sorts.specs.Result.{Result, ok, refused, _>>=_, unless}
@@ -20,6 +19,7 @@ use Rattle.literals.specs.Answer.{capped, answer}
 use Rattle.literals.proofs.Answers.{Told, value-told, refused-told}
 use Rattle.model.specs.Model.{Arm, armOf}
 use Rattle.model.specs.Listing.{line, armLines}
+use Rattle.model.proofs.Lengths.{length-line}
 use Rattle.definitions.specs.declared.measure.Measured.{Measured}
 use Rattle.definitions.specs.Measure.{valueSize, armSize, measured, declaredAs, ValueOf, ArmOf}
 
@@ -49,16 +49,10 @@ module _ (a : Literal) (wanted : ℕ) where
   value-refused z e m h = sym (ap (λ (x : Result Lit). measured valueSize (Of x)) (refused-told m a z e h))
 
 -- a key and a value
-length-line : (s : List ℕ) → length (line "when" s) ≡ length s + 6
-length-line s = omega (arith, length-append s (bytes "\n"))
-
-length-then : (s : List ℕ) → length (line "then" s) ≡ length s + 6
-length-then s = omega (arith, length-append s (bytes "\n"))
-
 pub length-arm : (k v : Value) → armSize (armOf k v) ≡ length (text k) + length (text v) + 12
 length-arm k v =
-    let p = length-line (text k) in
-    let q = length-then (text v) in
+    let p = length-line "when" (text k) in
+    let q = length-line "then" (text v) in
     omega (arith, length-append (line "when" (text k)) (line "then" (text v) ++ []), length-append (line "then" (text v)) [])
 
 module _ (a b : Literal) (argument result : ℕ) where

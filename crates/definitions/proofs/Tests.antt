@@ -28,7 +28,7 @@ use Rattle.model.specs.Model.{Arm, armOf, Table, tableOf, push, readTests}
 use Rattle.model.specs.Listing.{line, armLines}
 use Rattle.definitions.specs.declared.measure.Measured.{Measured}
 use Rattle.definitions.specs.Measure.{armSize, tableSize, measured, readTest, TestAt, TestsOf}
-use Rattle.definitions.proofs.Chains.{after, bind-none, bind-more, lines-append, was-refused, was-need}
+use Rattle.definitions.proofs.Chains.{after, bind-none, bind-more, lines-append, was-refused, was-need, sums-more}
 
 -- a test is read before what follows it
 pulled : (o : Result Tree) (f : Tree → Result Lit) (p : Lit → Bool) (next : Result Table) →
@@ -111,9 +111,6 @@ module _ (sorts fields members names ws ts : List ℕ) (offset size argument fir
           let w = h l g x us result r s in
           go (w .others) w refl
         where
-          sums : (t n now x y z : ℕ) → t ≡ min x 18446744073709551615 → n ≡ min y 18446744073709551615 → now ≡ min (t + n) 18446744073709551615 → z ≡ x + y → now ≡ min z 18446744073709551615
-          sums t n now x y z a b c d = omega arith
-
           go : (vs : Trees) (w : Left (tablesOf l) x argument result us ws ts at total (many - i)) → w .others ≡ vs → Left (tablesOf l) x argument result us ws ts next now (many - (i + 1))
           go nil w o = let c = w .there .many-are in let y = ap count o in absurd (omega arith)
           go (cons b vs) w o =
@@ -128,5 +125,5 @@ module _ (sorts fields members names ws ts : List ℕ) (offset size argument fir
                     ∙ ap (λ (n : Result Table). n >>= λ table. ok (after (w .front) table)) (tests-first (tablesOf l) x argument result b vs)
                     ∙ ap (λ (n : Result Arm). (n >>= λ q. readTests (tablesOf l) x argument result vs >>= λ table. ok (push q table)) >>= λ table. ok (after (w .front) table)) (y .read)
                     ∙ bind-more (readTests (tablesOf l) x argument result vs) (w .front) (y .it);
-                sum = sums total long now (length (armLines (w .front))) (armSize (y .it)) (length (armLines (w .front ++ (y .it ∷ [])))) (w .sum) (y .size-is) e (lines-append (w .front) (y .it ∷ []));
+                sum = sums-more total long now (length (armLines (w .front))) (armSize (y .it)) (length (armLines (w .front ++ (y .it ∷ [])))) (w .sum) (y .size-is) e (lines-append (w .front) (y .it ∷ []));
               }

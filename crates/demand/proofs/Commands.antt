@@ -1,6 +1,6 @@
 -- What a command defines, and the last definitions of many: values that are read from the last terms, and tables from the last bodies.
 -- Assumes nothing.
-use mathlib.Core.Path.{_≡_, refl, ap, ap₂, sym, _∙_, subst}
+use mathlib.Core.Path.{_≡_, ap, ap₂, sym, _∙_, subst}
 use mathlib.Core.Bool.{true, cond}
 use mathlib.Core.List.{List, [], _∷_, _++_}
 use mathlib.Core.Option.{Option, none, some}
@@ -23,6 +23,7 @@ use Rattle.meaning.proofs.Results.{refuses, ok-same, went, passed, was-found}
 use Rattle.commands.specs.Command.{Command, command}
 use Rattle.commands.proofs.Shapes.{CommandView, c-variable, c-function, c-misshapen, command-view}
 use Rattle.model.specs.Model.{Table, Definition, isVariable, isFunction, readBody, variableValue, functionTable, onRow, readCommand, readCommands, orElse, variableIn, functionIn, lastVariable, lastFunction}
+use Rattle.model.proofs.Choices.{or-none, or-assoc}
 use Rattle.demand.specs.Last.{Body, isRow, termIn, bodyIn, lastTermIn, lastBodyIn}
 
 -- a name that is in its table, or not
@@ -42,14 +43,6 @@ one-row : {A : Type 0} (rows : List A) (i j : ℕ) (a b : A) → at rows i ≡ s
 one-row rows i j a b p q h = some-one (sym q ∙ ap (λ (k : ℕ). at rows k) (sym (eqb-true i j h)) ∙ p)
 
 -- last definitions
-or-none : {A : Type 0} (a : Option A) → orElse a none ≡ a
-or-none none = refl
-or-none (some a) = refl
-
-or-assoc : {A : Type 0} (a b c : Option A) → orElse (orElse a b) c ≡ orElse a (orElse b c)
-or-assoc none b c = refl
-or-assoc (some a) b c = refl
-
 last-variable : (i : ℕ) (ds es : List Definition) → lastVariable i (ds ++ es) ≡ orElse (lastVariable i es) (lastVariable i ds)
 unfolding lastVariable
 last-variable i [] es = sym (or-none _)

@@ -10,9 +10,8 @@ use native.Mathlib.Omega.{arith}
 use lib.Dec.{eqb}
 use borrow.Author.Tests.{eqb-true}
 use Rattle.ground.specs.Lists.{any, all, distinct, at}
-use Rattle.ground.proofs.Tests.{by-test}
+use Rattle.ground.proofs.Tests.{by-test, both-left, both-right, both}
 use Rattle.utf8.specs.Octets.{utf8}
-use Rattle.utf8.proofs.Leads.{both-left, both-right}
 use Rattle.lexicon.specs.Class.{other, classOf}
 use Rattle.lexicon.specs.Span.{inSymbol}
 use Rattle.lexicon.specs.Symbol.{every, oneSymbol}
@@ -20,7 +19,6 @@ use Rattle.arena.specs.Text.{sameText}
 use Rattle.arena.proofs.Texts.{same-refl}
 use Rattle.order.specs.Every.{Every}
 use Rattle.tables.proofs.Places.{none-some}
-use Rattle.values.proofs.Alls.{both}
 use Rattle.demand.proofs.Looks.{not-any}
 
 -- no byte of it ends a line

@@ -11,7 +11,7 @@ use lib.Dec.{leb}
 use lib.ListN.{length}
 use Rattle.ground.specs.Bytes.{bytes}
 use Rattle.ground.specs.Lists.{all, at}
-use Rattle.utf8.proofs.Leads.{both-left, both-right}
+use Rattle.ground.proofs.Tests.{both-left, both-right}
 use Rattle.lexicon.specs.Symbol.{oneSymbol}
 use Rattle.decimals.specs.Decimal.{decimal}
 use Rattle.order.specs.Every.{Every}

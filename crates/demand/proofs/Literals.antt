@@ -9,8 +9,7 @@ use lib.Dec.{ltb, leb}
 use lib.ListN.{length}
 use Rattle.ground.specs.Bytes.{bytes}
 use Rattle.ground.specs.Lists.{any, all, at}
-use Rattle.ground.proofs.Tests.{by-test}
-use Rattle.utf8.proofs.Leads.{both-left, both-right}
+use Rattle.ground.proofs.Tests.{by-test, both-left, both-right}
 use Rattle.arena.specs.Text.{sameText}
 use Rattle.arena.specs.Tree.{Tree, bitVec, numeral, string, symbol, app}
 use Rattle.arena.proofs.Texts.{same-equal}

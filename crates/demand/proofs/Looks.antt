@@ -6,8 +6,7 @@ use mathlib.Core.List.{List, [], _∷_, map}
 use mathlib.Core.Option.{some}
 use Prim.Native.Nat.{ℕ, zero, suc}
 use Rattle.ground.specs.Lists.{any, distinct, at}
-use Rattle.ground.proofs.Tests.{by-test}
-use Rattle.utf8.proofs.Leads.{both-left, both-right}
+use Rattle.ground.proofs.Tests.{by-test, both-left, both-right}
 use Rattle.order.specs.Order.{before, insert, arranged}
 use Rattle.order.specs.Every.{Every, none, also, Ascends, empty, first}
 use Rattle.order.proofs.Befores.{never, before-irreflexive, by-order-of}

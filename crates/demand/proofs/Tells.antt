@@ -18,7 +18,8 @@ use Rattle.meaning.specs.Octets.{Octets}
 use Rattle.meaning.proofs.Results.{refuses}
 use Rattle.model.specs.Model.{Table, Definition, readModel, lastVariable, lastFunction}
 use Rattle.model.specs.Listing.{settledTable, settled, listing}
-use Rattle.model.proofs.Settled.{mapped, settled-function}
+use Rattle.model.proofs.Settled.{settled-function}
+use Rattle.model.proofs.Choices.{mapped}
 use Rattle.demand.specs.Last.{Body, lastBodyIn, lastTerm}
 use Rattle.demand.specs.Demand.{Sorted, OfVariable}
 use Rattle.demand.specs.Alike.{Alike}

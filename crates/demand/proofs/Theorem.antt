@@ -22,7 +22,8 @@ use Rattle.meaning.proofs.Sound.{sound-octets}
 use Rattle.commands.specs.Command.{tests}
 use Rattle.model.specs.Model.{Table, Definition, bodyBy, readBody, readCommands, readModel, lastVariable, lastFunction}
 use Rattle.model.specs.Listing.{settledTable, settled}
-use Rattle.model.proofs.Settled.{mapped, settled-variable, settled-function}
+use Rattle.model.proofs.Settled.{settled-variable, settled-function}
+use Rattle.model.proofs.Choices.{mapped}
 use Rattle.demand.specs.Meaning.{valueOf, meaning}
 use Rattle.demand.specs.Lookup.{lookup}
 use Rattle.demand.specs.Last.{Body, lastTermIn, lastBodyIn}

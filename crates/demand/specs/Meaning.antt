@@ -3,6 +3,7 @@ use mathlib.Core.Bool.{Bool, false, cond, _||_}
 use mathlib.Core.List.{List, [], _∷_}
 use mathlib.Core.Option.{Option, none, some}
 use Prim.Native.Nat.{ℕ}
+use Rattle.ground.specs.Options.{over}
 use Rattle.arena.specs.Tree.{Tree, Trees, bitVec, numeral, string, symbol, app, nil, cons}
 use Rattle.tables.specs.Sort.{Tables}
 use Rattle.shapes.specs.Shape.{is, onSymbol}
@@ -27,11 +28,6 @@ valueOf (refused r) = none
 abbrev pub literal : Tables → List ℕ → Tree → Meant
 literal T x t e = cond (mentions t x) none (valueOf (read T levels e t))
 
--- a term means something only where each of its parts does
-abbrev pub on : {A B : Type 0} → Option A → (A → Option B) → Option B
-on none f = none
-on (some a) f = f a
-
 abbrev pub truthOf : Value → Option Bool
 truthOf (vBool b) = some b
 truthOf (vString s) = none
@@ -43,15 +39,15 @@ truthOf (vSet vs) = none
 truthOf (vEntity row s) = none
 truthOf (vRecord row vs) = none
 
--- SMT-LIB's `ite`, `=` and `or` of two
+-- SMT-LIB's `ite`, `=` and `or` of two: each means something only where each of its parts does
 abbrev pub chosen : Option Value → Option Value → Option Value → Option Value
-chosen c a b = on c (λ t. on (truthOf t) (λ h. on a (λ v. on b (λ w. some (cond h v w)))))
+chosen c a b = over c (λ t. over (truthOf t) (λ h. over a (λ v. over b (λ w. some (cond h v w)))))
 
 abbrev pub equals : Option Value → Option Value → Option Value
-equals a b = on a (λ v. on b (λ w. some (vBool (decided (equal v w)))))
+equals a b = over a (λ v. over b (λ w. some (vBool (decided (equal v w)))))
 
 abbrev pub either : Option Value → Option Value → Option Value
-either a b = on a (λ v. on b (λ w. on (truthOf v) (λ h. on (truthOf w) (λ k. some (vBool (h || k))))))
+either a b = over a (λ v. over b (λ w. over (truthOf v) (λ h. over (truthOf w) (λ k. some (vBool (h || k))))))
 
 -- document 01's `(or)` and `(or t)`, of which SMT-LIB says nothing: false, and that test
 abbrev pub anyOf : List Meant → Option Value

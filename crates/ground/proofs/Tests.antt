@@ -1,12 +1,13 @@
 -- Case splits on numbers, and Boolean tests.
 -- Assumes nothing.
 use mathlib.Core.Path.{_≡_, refl, sym, _∙_}
-use mathlib.Core.Bool.{Bool, true, false, _&&_}
+use mathlib.Core.Bool.{Bool, true, false, _&&_, false≢true}
 use Prim.Native.Nat.{ℕ, _≤_, _<_}
 use native.Mathlib.Decide.{decLt, ℕ-discrete}
 use native.Mathlib.Omega.{arith}
 use lib.Dec.{leb}
 use borrow.Author.Tests.{le-leb, lt-leb}
+pub use mathlib.Core.Bool.{and-true, and-false}
 
 -- a number is below another, or not
 pub by-order {ℓ} : (a b : ℕ) {P : Type ℓ} → (a < b → P) → (b ≤ a → P) → P
@@ -17,9 +18,19 @@ pub by-test {ℓ} : (t : Bool) {P : Type ℓ} → (t ≡ true → P) → (t ≡ 
 by-test true f g = f refl
 by-test false f g = g refl
 
-pub and-false : (a : Bool) → (a && false) ≡ false
-and-false true = refl
-and-false false = refl
+-- two tests pass if each does
+pub both : {a b : Bool} → a ≡ true → b ≡ true → (a && b) ≡ true
+both p q = rw (p, q)
+
+pub both-parts : (a b : Bool) → (a && b) ≡ true → (a ≡ true) × (b ≡ true)
+both-parts true b h = (refl, h)
+both-parts false b h = absurd (false≢true h)
+
+pub both-left : (a b : Bool) → (a && b) ≡ true → a ≡ true
+both-left a b h = both-parts a b h .0
+
+pub both-right : (a b : Bool) → (a && b) ≡ true → b ≡ true
+both-right a b h = both-parts a b h .1
 
 -- any two values that a contract sets equal to one are equal
 pub one-result {ℓ} : {A : Type ℓ} {x r s : A} → r ≡ x → s ≡ x → r ≡ s

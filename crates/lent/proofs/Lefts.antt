@@ -41,10 +41,6 @@ module _ (short : ℕ → Refusal) (text buffer : List ℕ) where
   pub leaves-short : (n : ℕ) → length buffer < length text → n ≡ length text → Leaves (writing short text buffer) (Refused (short n)) buffer
   leaves-short n h e = rw (writing-short h) (record { answers = ap (λ (k : ℕ). Refused (short k)) e; holds = refl })
 
-pub length-onto : (text buffer : List ℕ) → length text ≤ length buffer → length (onto text buffer) ≡ length buffer
-unfolding onto
-length-onto text buffer h = length-append text (drop (length text) buffer) ∙ (rw (length-drop (length text) buffer) (omega arith))
-
 -- what the contract says in plain words: on acceptance the text stands at the front and the bytes past it are as they were; on
 -- refusal every byte is. So no program that writes past its text, or tells another length or need, meets it.
 module _ (short : ℕ → Refusal) (text buffer : List ℕ) where

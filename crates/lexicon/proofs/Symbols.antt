@@ -9,8 +9,7 @@ use lib.Dec.{eqb}
 use lib.ListN.{length, getD, take, drop}
 use borrow.Author.Tests.{eq-eqb, ne-eqb, eqb-true}
 use Rattle.utf8.specs.Octets.{utf8}
-use Rattle.utf8.proofs.Leads.{both-left, both-right}
-use Rattle.ground.proofs.Tests.{and-false}
+use Rattle.ground.proofs.Tests.{and-false, both-left, both-right}
 use Rattle.lexicon.specs.Class.{digit, other, classOf}
 use Rattle.lexicon.specs.Span.{inSymbol, symbolSpan}
 use Rattle.lexicon.specs.Symbol.{every, oneSymbol}

@@ -15,14 +15,11 @@ use Rattle.values.specs.Normal.{normal}
 use Rattle.values.specs.Value.{Value}
 use Rattle.model.specs.Model.{Table, Definition, isVariable, isFunction, orElse, variableIn, functionIn, lastVariable, lastFunction}
 use Rattle.model.specs.Listing.{settledTable, settled}
-use Rattle.model.proofs.Settled.{mapped, settled-variable, settled-function}
+use Rattle.model.proofs.Settled.{settled-variable, settled-function}
+use Rattle.model.proofs.Choices.{mapped, mapped-or}
 use Rattle.walk.specs.Noted.{slot}
 use Rattle.walk.specs.Last.{lastIn, Holds, Kept}
 use Rattle.listing.specs.Lines.{settledValue, settledOption, HoldsVariable, HoldsFunction}
-
-mapped-or : {A B : Type 0} (f : A → B) (a b : Option A) → orElse (mapped f a) (mapped f b) ≡ mapped f (orElse a b)
-mapped-or f none b = refl
-mapped-or f (some a) b = refl
 
 variable-slot : (i : ℕ) (d : Definition) → cond (eqb (i * 2) (slot d)) (some d) none ≡ mapped (isVariable i) (variableIn i d)
 variable-slot i (isVariable j v) =

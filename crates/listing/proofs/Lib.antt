@@ -5,5 +5,6 @@ pub mod Sizes
 pub mod Readings
 pub mod Pieces
 pub mod Wholes
+pub mod Needs
 pub mod One
 pub mod Demand

@@ -9,8 +9,7 @@ use native.Mathlib.Omega.{arith}
 use lib.Dec.{leb}
 use lib.ListN.{length, length-append}
 use borrow.Author.Tests.{leb-true}
-use Rattle.ground.specs.Bytes.{bytes}
-use Rattle.utf8.proofs.Leads.{both-left}
+use Rattle.ground.proofs.Tests.{both-left}
 use Rattle.lexicon.specs.Symbol.{oneSymbol}
 use Rattle.decimals.specs.Decimal.{digitCount, decimal}
 use Rattle.decimals.proofs.Counts.{count-most}
@@ -27,36 +26,13 @@ use Rattle.values.specs.Value.{Value}
 use Rattle.literals.specs.Answer.{capped}
 use Rattle.model.specs.Model.{Table}
 use Rattle.model.specs.Listing.{line, armLines, variableLines, functionLines}
+use Rattle.model.proofs.Lengths.{length-line}
 use Rattle.definitions.specs.Measure.{valueSize, tableSize}
 use Rattle.listing.specs.Lines.{header, variableSize, functionSize}
 
-length-var : (s : List ℕ) → length (line "var" s) ≡ length s + 5
-length-var s = omega (arith, length-append s (bytes "\n"))
-
-length-sort : (s : List ℕ) → length (line "sort" s) ≡ length s + 6
-length-sort s = omega (arith, length-append s (bytes "\n"))
-
-length-value : (s : List ℕ) → length (line "value" s) ≡ length s + 7
-length-value s = omega (arith, length-append s (bytes "\n"))
-
-length-fun : (s : List ℕ) → length (line "fun" s) ≡ length s + 5
-length-fun s = omega (arith, length-append s (bytes "\n"))
-
-length-arg : (s : List ℕ) → length (line "arg" s) ≡ length s + 5
-length-arg s = omega (arith, length-append s (bytes "\n"))
-
-length-out : (s : List ℕ) → length (line "out" s) ≡ length s + 5
-length-out s = omega (arith, length-append s (bytes "\n"))
-
-length-vars : (s : List ℕ) → length (line "vars" s) ≡ length s + 6
-length-vars s = omega (arith, length-append s (bytes "\n"))
-
-length-funs : (s : List ℕ) → length (line "funs" s) ≡ length s + 6
-length-funs s = omega (arith, length-append s (bytes "\n"))
-
 pub length-header : (v f : ℕ) → length (header v f) ≡ digitCount v + digitCount f + 12
 length-header v f =
-    omega (arith, length-append (line "vars" (decimal v)) (line "funs" (decimal f)), length-vars (decimal v), length-funs (decimal f), length-decimal v, length-decimal f)
+    omega (arith, length-append (line "vars" (decimal v)) (line "funs" (decimal f)), length-line "vars" (decimal v), length-line "funs" (decimal f), length-decimal v, length-decimal f)
 
 pub header-small : (v f : ℕ) → length (header v f) ≤ 92
 header-small v f = omega (arith, length-header v f, count-most v, count-most f)
@@ -72,7 +48,7 @@ module _ (l : Lent) (row : ℕ) where
   length-variable v =
       let n = nameAt (l .names) (l .variables) row in
       let d = decimal (word (l .variables) row 2) in
-      omega (arith, length-append (line "var" n) (line "sort" d ++ line "value" (text v)), length-append (line "sort" d) (line "value" (text v)), length-var n, length-sort d, length-value (text v), length-decimal (word (l .variables) row 2))
+      omega (arith, length-append (line "var" n) (line "sort" d ++ line "value" (text v)), length-append (line "sort" d) (line "value" (text v)), length-line "var" n, length-line "sort" d, length-line "value" (text v), length-decimal (word (l .variables) row 2))
 
   pub length-function : (t : Table) → length (functionLines (functionAt l row) (some t)) ≡ functionSize (l .names) (l .functions) row (tableSize t)
   length-function t =
@@ -80,7 +56,7 @@ module _ (l : Lent) (row : ℕ) where
       let a = decimal (word (l .functions) row 2) in
       let r = decimal (word (l .functions) row 3) in
       let rest = armLines (t .arms) ++ line "else" (text (t .«else»)) in
-      omega (arith, length-append (line "fun" n) (line "arg" a ++ (line "out" r ++ rest)), length-append (line "arg" a) (line "out" r ++ rest), length-append (line "out" r) rest, length-fun n, length-arg a, length-out r, length-decimal (word (l .functions) row 2), length-decimal (word (l .functions) row 3))
+      omega (arith, length-append (line "fun" n) (line "arg" a ++ (line "out" r ++ rest)), length-append (line "arg" a) (line "out" r ++ rest), length-append (line "out" r) rest, length-line "fun" n, length-line "arg" a, length-line "out" r, length-decimal (word (l .functions) row 2), length-decimal (word (l .functions) row 3))
 
   module _ (rules : lawful (tablesOf l) ≡ true) where
     variable-name : row < count (l .variables) → length (nameAt (l .names) (l .variables) row) ≤ nameLimit
@@ -97,11 +73,17 @@ module _ (l : Lent) (row : ℕ) where
         let f = both-left (nameRight (v .name)) (present (tablesOf l) (v .argument)) (both-left (nameRight (v .name) && present (tablesOf l) (v .argument)) (present (tablesOf l) (v .result)) e) in
         leb-true (length (v .name)) nameLimit (both-left (leb (length (v .name)) nameLimit) (oneSymbol (v .name)) f)
 
+    pub variable-most : (long : ℕ) → row < count (l .variables) → variableSize (l .names) (l .variables) row long ≤ long + 66000
+    variable-most long h = omega (arith, variable-name h, count-most (word (l .variables) row 2))
+
+    pub function-most : (long : ℕ) → row < count (l .functions) → functionSize (l .names) (l .functions) row long ≤ long + 66000
+    function-most long h = omega (arith, function-name h, count-most (word (l .functions) row 2), count-most (word (l .functions) row 3))
+
     pub variable-small : (long : ℕ) → row < count (l .variables) → long < 2 ^ 48 → variableSize (l .names) (l .variables) row long ≤ 562949953421312
-    variable-small long h s = omega (arith, variable-name h, count-most (word (l .variables) row 2))
+    variable-small long h s = omega (arith, variable-most long h)
 
     pub function-small : (long : ℕ) → row < count (l .functions) → long < 2 ^ 48 → functionSize (l .names) (l .functions) row long ≤ 562949953421312
-    function-small long h s = omega (arith, function-name h, count-most (word (l .functions) row 2), count-most (word (l .functions) row 3))
+    function-small long h s = omega (arith, function-most long h)
 
 -- summed up as far as a word counts
 three-capped : (a b long : ℕ) → min (min (min (a + b) 18446744073709551615 + 18) 18446744073709551615 + long) 18446744073709551615 ≡ min (a + b + 18 + long) 18446744073709551615

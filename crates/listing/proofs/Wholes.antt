@@ -10,7 +10,7 @@ use lib.ListN.{length, take, drop, replicate, length-append}
 use lib.Seq.{drop-drop}
 use borrow.Author.Tests.{le-leb, lt-leb}
 use borrow.Rule.Slice.PartMut.{putMid, mid-len}
-use Rattle.ground.proofs.Tests.{by-test}
+use Rattle.ground.proofs.Tests.{by-test, both-right}
 use Rattle.refusals.specs.declared.Refusal.{Refusal}
 use Rattle.refusals.specs.declared.Refusal.the-variants.{OutRoom, BadTable, BadArena, UnexpectedModel}
 use Rattle.lent.specs.declared.Written.{Written}
@@ -18,7 +18,6 @@ use Rattle.lent.specs.declared.Written.the-variants.{Length, Refused}
 use Rattle.lent.specs.Left.{Left, refusing, Leaves}
 use Rattle.lent.specs.Put.{Offers}
 use Rattle.lent.proofs.Lefts.{leaves-refused}
-use Rattle.utf8.proofs.Leads.{both-right}
 use Rattle.arena.specs.Arena.{Arena}
 use Rattle.arena.specs.Tree.{Tree, Trees, bitVec, numeral, string, symbol, app, nodes, text}
 use Rattle.arena.proofs.Arenas.{arena-stands}
@@ -98,7 +97,7 @@ module _ (ds : List Definition) where
 
 -- a rendering in its three parts, the counts being given
 module _ (l : Lent) (ds : List Definition) where
-  parts : (v f : ℕ) → v ≡ variableCount ds 0 (tablesOf l .variables) → f ≡ functionCount ds 0 (tablesOf l .functions) →
+  pub parts : (v f : ℕ) → v ≡ variableCount ds 0 (tablesOf l .variables) → f ≡ functionCount ds 0 (tablesOf l .functions) →
       header v f ++ (variablesFrom ds 0 (tablesOf l .variables) ++ functionsFrom ds 0 (tablesOf l .functions)) ≡ rendered ds (tablesOf l)
   unfolding rendered
   parts v f p q =

@@ -25,7 +25,7 @@ all-held : (o : Option Values) → some? o ≡ true → (vs : Values) × (o ≡ 
 all-held none e = absurd (true≢false (sym e))
 all-held (some vs) e = (vs, refl)
 
-held-set : (v : Value) (vs : Values) → held v ≡ some vs → v ≡ vSet vs
+pub held-set : (v : Value) (vs : Values) → held v ≡ some vs → v ≡ vSet vs
 held-set (vBool b) vs e = absurd (true≢false (sym (ap some? e)))
 held-set (vString s) vs e = absurd (true≢false (sym (ap some? e)))
 held-set (vExt x z) vs e = absurd (true≢false (sym (ap some? e)))

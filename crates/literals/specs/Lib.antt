@@ -3,3 +3,4 @@ pub mod Answer
 pub mod Parts
 pub mod Plan
 pub mod Field
+pub mod Samples

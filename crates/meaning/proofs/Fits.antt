@@ -11,13 +11,12 @@ use lib.Dec.{leb, ltb}
 use lib.Pow.{pow-pos}
 use borrow.Author.Tests.{leb-true, ltb-true}
 use Rattle.ground.specs.Lists.{at}
-use Rattle.ground.proofs.Tests.{by-test, by-order}
+use Rattle.ground.proofs.Tests.{by-test, by-order, both-right}
 use Rattle.words.specs.declared.digits.Radix.{Radix}
 use Rattle.words.specs.Radix.{baseOf}
 use Rattle.words.specs.Run.{number, digits, someByte, parsed}
 use Rattle.words.specs.Extension.{signed}
 use Rattle.words.proofs.Signs.{signed-of}
-use Rattle.utf8.proofs.Leads.{both-right}
 use Rattle.arena.specs.Tree.{Tree, Trees, Sound}
 use Rattle.tables.specs.Sort.{bitVec, Tables}
 use Rattle.tables.specs.Rules.{widthLimit, lawful}
@@ -99,6 +98,3 @@ module _ (T : Tables) (rules : Lawful T) where
 module _ (T : Tables) (rules : lawful T ≡ true) (allow : ℕ) (expected : Option ℕ) (t : Tree) (l : Lit) where
   pub read-fits : Octets t → read T allow expected t ≡ ok l → HasSort (l .value) Loose T (l .row)
   read-fits h e = fits T (lawful-parts T rules) allow expected t l h e
-
-  pub read-fits-sound : Sound t → read T allow expected t ≡ ok l → HasSort (l .value) Loose T (l .row)
-  read-fits-sound h e = read-fits (sound-octets t h) e

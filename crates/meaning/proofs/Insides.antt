@@ -6,7 +6,7 @@ use Prim.Native.Nat.{ℕ}
 use Rattle.ground.specs.Lists.{at}
 use Rattle.tables.specs.Sort.{Sort, bool, string, ext, bitVec, optionOf, setOf, entityOf, recordOf, Tables}
 use Rattle.tables.proofs.Places.{none-some, some-one}
-use Rattle.values.specs.Value.{Value, Values, vBool, vString, vExt, vBits, vNone, vSome, vSet, vEntity, vRecord}
+use Rattle.values.specs.Value.{Value, Values, vSet}
 use Rattle.values.specs.HasSort.{HasSort, HaveSort}
 use Rattle.values.proofs.Forms.{form}
 use Rattle.literals.specs.Literal.{optionIn, setIn, held}
@@ -32,17 +32,6 @@ set-inside (some (optionOf p)) q e = absurd (none-some e)
 set-inside (some (setOf p)) q e = cc
 set-inside (some (entityOf name)) q e = absurd (none-some e)
 set-inside (some (recordOf name fs)) q e = absurd (none-some e)
-
-pub set-held : (v : Value) (vs : Values) → held v ≡ some vs → v ≡ vSet vs
-set-held (vBool b) vs e = absurd (none-some e)
-set-held (vString s) vs e = absurd (none-some e)
-set-held (vExt x z) vs e = absurd (none-some e)
-set-held (vBits w n) vs e = absurd (none-some e)
-set-held vNone vs e = absurd (none-some e)
-set-held (vSome v) vs e = absurd (none-some e)
-set-held (vSet us) vs e = ap vSet (some-one e)
-set-held (vEntity row s) vs e = absurd (none-some e)
-set-held (vRecord row us) vs e = absurd (none-some e)
 
 -- a value that has a set's sort holds members, and these have the sort inside
 module _ (A : Values → Type 0) (T : Tables) (row q : ℕ) (k : at (T .sorts) row ≡ some (setOf q)) where

@@ -10,3 +10,4 @@ pub mod Fits
 pub mod Rows
 pub mod Deeper
 pub mod Sizes
+pub mod Plain

@@ -9,8 +9,8 @@ use lib.Dec.{leb}
 use lib.ListN.{length}
 use borrow.Author.Tests.{leb-true}
 use Rattle.ground.specs.Lists.{at}
+use Rattle.ground.proofs.Tests.{both-left, both-right}
 use Rattle.utf8.specs.Octets.{utf8}
-use Rattle.utf8.proofs.Leads.{both-left, both-right}
 use Rattle.tables.specs.Sort.{Sort, bool, string, ext, bitVec, optionOf, setOf, entityOf, recordOf, Member, Tables}
 use Rattle.tables.specs.Rules.{nameLimit, ownName, isEntity}
 use Rattle.tables.proofs.Lawful.{Lawful, member-right}

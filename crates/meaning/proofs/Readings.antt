@@ -24,9 +24,10 @@ use Rattle.sorts.specs.Result.{ok}
 use Rattle.sorts.specs.Sort.{readSort}
 use Rattle.values.specs.Value.{Value, Values, vBool, vString, vExt, vBits, vNone, vSome, vSet, vEntity, vRecord, vNil, vCons, union as both, members}
 use Rattle.literals.specs.Literal.{Lit, lit, optionIn, setIn, unsigned, numbered, litOf, expectIn, indexedLit, entityLit, sameCount, fieldsOf, madeRow, appLit, memberLit, atRow, wordLit, read}
+use Rattle.literals.proofs.Unions.{held-set}
 use Rattle.meaning.proofs.Results.{refuses, ok-same, went, passed, was-found}
 use Rattle.meaning.proofs.Views.{extName, call1, call2, View, v-operator, v-asNone, v-asSome, v-someOf, v-asEmpty, v-singleton, v-union, v-extension, v-indexed, v-made, v-other, view}
-use Rattle.meaning.proofs.Insides.{option-inside, set-inside, set-held}
+use Rattle.meaning.proofs.Insides.{option-inside, set-inside}
 use Rattle.meaning.proofs.Finds.{nameless, IsNamed, row-is, named-is}
 
 -- the fields of a record: each of its row
@@ -169,8 +170,8 @@ module _ (T : Tables) (a : ℕ) (e : Option ℕ) where
       let p = passed _ UnmatchedType _ l (z .next) in
       let y = went _ _ l (p .1) in
       let x = went _ _ l (y .next) in
-      let left = set-held (w .got .value) (y .got) (was-found SetUnionNonLiterals _ _ (y .first)) in
-      let right = set-held (z .got .value) (x .got) (was-found SetUnionNonLiterals _ _ (x .first)) in
+      let left = held-set (w .got .value) (y .got) (was-found SetUnionNonLiterals _ _ (y .first)) in
+      let right = held-set (z .got .value) (x .got) (was-found SetUnionNonLiterals _ _ (x .first)) in
       subst (Told _) (ok-same (x .next)) (r-union (w .got) (z .got) (w .first) (z .first) (eqb-true _ _ (p .0)) left right)
   app-told _ _ (v-extension {x = x} {n = n}) l m = sort-told _ (ext x) (vExt x (signed 64 (n % 2 ^ 64))) l refl (λ row k. r-extension k) m
   app-told _ _ (v-indexed {digits = ds} {w = w}) l m = indexed-told ds w l m

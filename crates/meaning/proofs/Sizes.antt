@@ -5,12 +5,12 @@ use mathlib.Core.Bool.{true}
 use mathlib.Core.List.{List}
 use mathlib.Core.Option.{Option, some}
 use Prim.Native.Nat.{ℕ, zero, suc, _+_, _*_, _%_, _^_, _≤_, _<_}
+use native.Mathlib.Nat.{mul-add}
 use native.Mathlib.Omega.{arith}
-use lib.IntN.{ℤ, pos, negsuc}
+use lib.IntN.{ℤ}
 use lib.ListN.{length, length-append}
 use Rattle.ground.specs.Bytes.{bytes}
 use Rattle.words.specs.Extension.{signed}
-use Rattle.decimals.specs.Decimal.{signedDecimal}
 use Rattle.decimals.proofs.Counts.{count-most}
 use Rattle.arena.specs.Tree.{Tree, Trees, symbol, string as quoted, app, nil, cons, nodes, nodesOf, text as treeText, texts as treeTexts, mostNodes, mostText}
 use Rattle.tables.specs.Sort.{Ext, Tables}
@@ -19,29 +19,38 @@ use Rattle.tables.proofs.Lawful.{Lawful, lawful-parts}
 use Rattle.sorts.specs.Result.{ok}
 use Rattle.values.specs.Value.{Value, Values, vExt, vBits, vSet, vEntity, vNil, vCons, union}
 use Rattle.values.specs.Text.{text}
-use Rattle.values.proofs.Lengths.{length-natural, length-negative, size, size-union, length-true, length-false, length-string, length-ext, length-bits, length-none, length-some, length-set, length-entity, length-record}
+use Rattle.values.proofs.Lengths.{size, size-union, length-true, length-false, length-string, length-ext, length-bits, length-none, length-some, length-set, length-entity, length-record}
 use Rattle.literals.specs.Literal.{Lit, read}
+use Rattle.literals.proofs.Words.{signed-most}
 use Rattle.meaning.proofs.Results.{refuses}
 use Rattle.meaning.proofs.Views.{call2}
 use Rattle.meaning.proofs.Readings.{FieldReadings, f-nil, f-cons, Reading, r-bits, r-string, r-true, r-false, r-member, r-none, r-asSome, r-some, r-empty, r-singleton, r-union, r-extension, r-indexed, r-entity, r-record, reading}
 use Rattle.meaning.proofs.Members.{member-kept}
 use Rattle.meaning.proofs.Fits.{width-most}
 
+-- so many bytes a node, and two for each byte of the text
+abbrev pub roomBy : ℕ → Tree → ℕ
+roomBy each t = each * nodes t + 2 * length (treeText t)
+
+abbrev pub roomsBy : ℕ → Trees → ℕ
+roomsBy each us = each * nodesOf us + 2 * length (treeTexts us)
+
+-- trees have the room of each
+pub rooms-cons : (each : ℕ) (u : Tree) (us : Trees) → roomsBy each (cons u us) ≡ roomBy each u + roomsBy each us
+rooms-cons each u us = omega (arith, length-append (treeText u) (treeTexts us), mul-add each (nodes u) (nodesOf us))
+
 abbrev room : Tree → ℕ
-room t = 131200 * nodes t + 2 * length (treeText t)
+room t = roomBy 131200 t
 
 abbrev rooms : Trees → ℕ
-rooms us = 131200 * nodesOf us + 2 * length (treeTexts us)
+rooms us = roomsBy 131200 us
 
 -- an application has the room of its parts, and a node's more
-room-cons : (u : Tree) (us : Trees) → rooms (cons u us) ≡ room u + rooms us
-room-cons u us = let h = length-append (treeText u) (treeTexts us) in omega arith
-
 room-second : (h v : Tree) → 131200 + room v ≤ room (app (cons h (cons v nil)))
-room-second h v = let p = room-cons h (cons v nil) in let q = room-cons v nil in omega arith
+room-second h v = let p = rooms-cons 131200 h (cons v nil) in let q = rooms-cons 131200 v nil in omega arith
 
 room-third : (h v w : Tree) → 131200 + room v + room w ≤ room (app (cons h (cons v (cons w nil))))
-room-third h v w = let p = room-cons h (cons v (cons w nil)) in let q = room-cons v (cons w nil) in let r = room-cons w nil in omega arith
+room-third h v w = let p = rooms-cons 131200 h (cons v (cons w nil)) in let q = rooms-cons 131200 v (cons w nil) in let r = rooms-cons 131200 w nil in omega arith
 
 room-node : (t : Tree) → 131200 ≤ room t
 room-node (Tree.bitVec w n) = omega arith
@@ -56,12 +65,8 @@ bits-short w n h = let k = count-most w in let e = length-bits w n in omega arit
 entity-short : (row : ℕ) (s : List ℕ) → length (text (vEntity row s)) ≤ 2 * length s + 42
 entity-short row s = let k = count-most row in let e = length-entity row s in omega arith
 
-signed-short : (z : ℤ) → length (signedDecimal z) ≤ 41
-signed-short (pos n) = let k = count-most n in let e = length-natural n in omega arith
-signed-short (negsuc n) = let k = count-most (suc n) in let e = length-negative n in omega arith
-
 ext-short : (x : Ext) (z : ℤ) → length (text (vExt x z)) < 131200
-ext-short x z = let k = signed-short z in let e = length-ext x z in omega arith
+ext-short x z = let k = signed-most z in let e = length-ext x z in omega arith
 
 union-short : (vs ws : Values) → length (text (vSet (union vs ws))) ≤ length (text (vSet vs)) + length (text (vSet ws))
 union-short vs ws =
@@ -78,7 +83,7 @@ module _ (T : Tables) (rules : Lawful T) where
     fields-short _ _ _ (f-cons {f = f} {fs = fs} {u = u} {us = us} {vs = vs} l e k h) =
         let p = below (some f) u l e in
         let q = fields-short fs us vs h in
-        let r = room-cons u us in
+        let r = rooms-cons 131200 u us in
         omega arith
 
     reading-short : (e : Option ℕ) (t : Tree) (row : ℕ) (v : Value) → Reading T a e t row v → length (text v) < room t
@@ -103,7 +108,7 @@ module _ (T : Tables) (rules : Lawful T) where
     reading-short e t _ _ (r-indexed {w = w} {n = n} {row = row} h f k) = omega (arith, bits-short w n (width-most T rules row w k), room-node t)
     reading-short e t _ _ (r-entity {f = f} {s = s} {row = row} h k) = omega (arith, entity-short row s, room-second (symbol f) (quoted s))
     reading-short e t _ _ (r-record {f = f} {us = us} {row = row} {vs = vs} fs h k g) =
-        omega (arith, length-record row vs, count-most row, fields-short fs us vs g, room-cons (symbol f) us)
+        omega (arith, length-record row vs, count-most row, fields-short fs us vs g, rooms-cons 131200 (symbol f) us)
 
   short : (allow : ℕ) (expected : Option ℕ) (t : Tree) (l : Lit) → read T allow expected t ≡ ok l → length (text (l .value)) < room t
   unfolding read

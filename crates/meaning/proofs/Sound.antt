@@ -8,13 +8,13 @@ use native.Mathlib.Omega.{arith}
 use lib.Dec.{ltb}
 use borrow.Author.Tests.{lt-ltb, ltb-true}
 use Rattle.ground.specs.Lists.{all}
+use Rattle.ground.proofs.Tests.{both-left, both-right, both}
 use Rattle.utf8.specs.Rows.{Span, _to_, rows}
 use Rattle.utf8.specs.Octets.{Sequence, Concatenation, none, more, utf8}
-use Rattle.utf8.proofs.Leads.{both-left, both-right}
 use Rattle.utf8.proofs.Concatenations.{utf8-means}
 use Rattle.arena.specs.Tree.{Tree, Trees, bitVec, numeral, string, symbol, app, nil, cons, Sound, SoundAll}
 use Rattle.values.specs.HasSort.{octets}
-use Rattle.values.proofs.Alls.{both, all-append}
+use Rattle.values.proofs.Alls.{all-append}
 use Rattle.meaning.specs.Octets.{Octets, OctetsAll}
 
 -- each span ends at a byte

@@ -8,8 +8,7 @@ use Prim.Native.String.{String}
 use lib.Dec.{eqb}
 use borrow.Author.Tests.{eqb-true}
 use Rattle.ground.specs.Bytes.{bytes}
-use Rattle.ground.proofs.Tests.{by-test}
-use Rattle.utf8.proofs.Leads.{both-left, both-right}
+use Rattle.ground.proofs.Tests.{by-test, both-left, both-right}
 use Rattle.arena.specs.Tree.{Tree, Trees, bitVec, numeral, string, symbol, app, nil, cons}
 use Rattle.arena.proofs.Texts.{same-equal}
 use Rattle.tables.specs.Sort.{Ext, decimal, datetime, duration}

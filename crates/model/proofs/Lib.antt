@@ -1,2 +1,4 @@
+pub mod Choices
+pub mod Lengths
 pub mod Settled
 pub mod Skipped

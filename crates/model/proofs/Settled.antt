@@ -2,7 +2,7 @@
 -- Assumes nothing.
 use mathlib.Core.Path.{_≡_, refl, ap₂, _∙_}
 use mathlib.Core.List.{List, [], _∷_, map}
-use mathlib.Core.Option.{Option, none, some}
+use mathlib.Core.Option.{Option}
 use Prim.Native.Nat.{ℕ}
 use lib.Dec.{eqb}
 use Rattle.ground.proofs.Tests.{by-test}
@@ -10,14 +10,7 @@ use Rattle.values.specs.Normal.{normal}
 use Rattle.values.specs.Value.{Value}
 use Rattle.model.specs.Model.{Table, Definition, isVariable, isFunction, orElse, variableIn, functionIn, lastVariable, lastFunction}
 use Rattle.model.specs.Listing.{settledTable, settled}
-
-abbrev pub mapped : {A B : Type 0} → (A → B) → Option A → Option B
-mapped f none = none
-mapped f (some a) = some (f a)
-
-mapped-or : {A B : Type 0} (f : A → B) (a b : Option A) → orElse (mapped f a) (mapped f b) ≡ mapped f (orElse a b)
-mapped-or f none b = refl
-mapped-or f (some a) b = refl
+use Rattle.model.proofs.Choices.{mapped, mapped-or}
 
 settled-variable-in : (i : ℕ) (d : Definition) → variableIn i (settled d) ≡ mapped normal (variableIn i d)
 settled-variable-in i (isVariable j v) = by-test (eqb i j) (λ h. rw h refl) (λ h. rw h refl)

@@ -3,12 +3,11 @@ use mathlib.Core.Path.{_≡_, refl}
 use mathlib.Core.Bool.{true}
 use mathlib.Core.List.{List, [], _∷_, map}
 use Prim.Native.Nat.{ℕ, _-_, _^_}
-use Prim.Native.String.{String}
 use Rattle.ground.specs.Bytes.{bytes}
 use Rattle.ground.specs.Lists.{joined, find, at}
 use Rattle.refusals.specs.declared.Refusal.the-variants.{UnexpectedModel}
 use Rattle.arena.specs.Text.{sameText}
-use Rattle.arena.specs.Tree.{Tree, Trees, bitVec, numeral, symbol, app, nil, cons}
+use Rattle.arena.specs.Tree.{Tree, bitVec, numeral}
 use Rattle.decimals.specs.Decimal.{decimal, lastDigits, digitCountWithin, signedDecimal}
 use Rattle.order.specs.Order.{before, insert, arranged}
 use Rattle.tables.specs.Find.{sortRow, namedSort, variableRow, functionRow, memberRow}
@@ -20,19 +19,10 @@ use Rattle.sorts.specs.Sort.{readSort}
 use Rattle.values.specs.Normal.{normal, normals, arrangedValues}
 use Rattle.values.specs.Text.{text, hex, hexText, hexDigit}
 use Rattle.literals.specs.Literal.{read}
+use Rattle.literals.specs.Samples.{word, of}
 use Rattle.commands.specs.Command.{command, chain, tests, key}
 use Rattle.model.specs.Model.{Definition, readChain, readTests, readCommands, readModel, lastVariable, lastFunction}
 use Rattle.model.specs.Listing.{rendered, listing}
-
-abbrev list : List Tree → Trees
-list [] = nil
-list (t ∷ ts) = cons t (list ts)
-
-abbrev word : String → Tree
-word s = symbol (bytes s)
-
-abbrev of : List Tree → Tree
-of ts = app (list ts)
 
 -- `(_ BitVec 8)`
 abbrev eight : Tree

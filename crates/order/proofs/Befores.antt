@@ -85,14 +85,6 @@ before-asymmetric xs ys h = by-test (before ys xs) (λ k. never (sym (before-tra
 pub by-order-of {ℓ} : {R : Type ℓ} (xs ys : List ℕ) → (before xs ys ≡ true → R) → (xs ≡ ys → R) → (before ys xs ≡ true → R) → R
 by-order-of xs ys f g h = by-test (before xs ys) f (λ a. by-test (before ys xs) h (λ b. g (before-total xs ys a b)))
 
--- not before, and then before what is not
-pub before-least : (xs ys zs : List ℕ) → before ys xs ≡ false → before ys zs ≡ true → before xs zs ≡ true
-before-least xs ys zs a b =
-    by-order-of xs ys
-    (λ h. before-transitive xs ys zs h b)
-    (λ h. subst (λ (w : List ℕ). before w zs ≡ true) (sym h) b)
-    (λ h. never (sym h ∙ a))
-
 pub before-most : (xs ys zs : List ℕ) → before xs ys ≡ true → before zs ys ≡ false → before xs zs ≡ true
 before-most xs ys zs a b =
     by-order-of ys zs

@@ -133,6 +133,14 @@ module _ (N T S : List ℕ) where
   fitted-is : (t : Tree) → nodes t ≤ length N / stride → length (text t) ≤ length T → depth t ≤ length S → fitted N T S t ≡ written N T S t
   fitted-is t h g k = rw (le-leb (nodes t) (length N / stride) h) (rw (le-leb (length (text t)) (length T) g) (rw (le-leb (depth t) (length S) k) refl))
 
+-- bytes that are not too long are read as what they stand for
+reading-is : (s N T S : List ℕ) → length s ≤ inputLimit → reading N T S s ≡ settled N T S (parse s)
+unfolding reading
+reading-is s N T S short = rw (le-leb (length s) inputLimit short) refl
+
+pub read-left : (s N T S : List ℕ) (t : Tree) → parse s ≡ tree t → length s ≤ inputLimit → reading N T S s ≡ fitted N T S t
+read-left s N T S t e short = reading-is s N T S short ∙ ap (settled N T S) e
+
 module _ (s N T S : List ℕ) where
   leaves : (l : Left) → reading N T S s ≡ l → Leaves (reading N T S s) (l .answer) (l .nodes) (l .text) (l .stack)
   leaves l e = subst (λ (x : Left). Leaves x (l .answer) (l .nodes) (l .text) (l .stack)) (sym e) (record { answers = refl; nodes = refl; text = refl; stack = refl })
@@ -142,10 +150,6 @@ module _ (s N T S : List ℕ) where
   too-long h = leaves (refusing N T S InputTooLong) (rw (lt-leb (length s) inputLimit h) refl)
 
   module _ (short : length s ≤ inputLimit) (r : Tally) (tally : r ≡ tallied start (lex s)) (a : Reading) (judge : a ≡ judged r (length N / stride) (length T) (length S)) where
-    reading-is : reading N T S s ≡ settled N T S (parse s)
-    unfolding reading
-    reading-is = rw (le-leb (length s) inputLimit short) refl
-
     answered : a ≡ answers N T S (parse s)
     unfolding parse
     answered = judge ∙ ap (λ (x : Tally). judged x (length N / stride) (length T) (length S)) tally ∙ answer-is (lex s) (length N / stride) (length T) (length S)
@@ -153,7 +157,7 @@ module _ (s N T S : List ℕ) where
     pub left-refused : (why : Refusal) → a ≡ Refused why → Leaves (reading N T S s) a N T S
     left-refused why q =
         subst (λ (x : Reading). Leaves (reading N T S s) x N T S) (sym q)
-        (leaves (refusing N T S why) (reading-is ∙ settled-refused N T S (parse s) why (sym q ∙ answered)))
+        (leaves (refusing N T S why) (reading-is s N T S short ∙ settled-refused N T S (parse s) why (sym q ∙ answered)))
 
     module _ (k j m : ℕ) (q : a ≡ Read k j m) where
       fits : Fits N T S (parse s) k j m
@@ -171,7 +175,7 @@ module _ (s N T S : List ℕ) where
 
         pub left-written : (S″ : List ℕ) → S″ ≡ replicate m 0 ++ drop m S′ → Leaves (reading N T S s) (Read k j m) N′ T′ S″
         left-written S″ z =
-            let l : reading N T S s ≡ written N T S (w .found) = reading-is ∙ ap (settled N T S) (fits .is) ∙ fitted-is N T S (fits .t) (fits .roomN) (fits .roomT) (fits .roomS) ∙ ap (written N T S) same-tree in
+            let l : reading N T S s ≡ written N T S (w .found) = reading-is s N T S short ∙ ap (settled N T S) (fits .is) ∙ fitted-is N T S (fits .t) (fits .roomN) (fits .roomT) (fits .roomS) ∙ ap (written N T S) same-tree in
             let k₁ : k ≡ nodes (w .found) = fits .sizeN ∙ ap nodes same-tree in
             let j₁ : j ≡ length (text (w .found)) = fits .sizeT ∙ ap (λ (t : Tree). length (text t)) same-tree in
             let m₁ : m ≡ depth (w .found) = fits .sizeS ∙ ap depth same-tree in

@@ -118,7 +118,7 @@ pub record Found (r : Lexed) (t : Tree) : Type 0 where
   pub lexed : r ≡ ok ts
   pub walked : walk (going []) ts ≡ done t
 
-finished : (w : Walk) (t : Tree) → finish w ≡ tree t → w ≡ done t
+pub finished : (w : Walk) (t : Tree) → finish w ≡ tree t → w ≡ done t
 finished (going st) t e = let z : _≡_ {A = ℕ} 0 1 = cc in absurd (omega arith)
 finished (done y) t e = cc
 finished (fault n) t e = let z : _≡_ {A = ℕ} 0 1 = cc in absurd (omega arith)

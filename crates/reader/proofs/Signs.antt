@@ -10,14 +10,13 @@ use lib.Dec.{leb, ltb}
 use lib.ListN.{length}
 use lib.Pow.{pow-pos, pow-mono, pow-add, low}
 use borrow.Author.Tests.{ltb-true}
-use Rattle.ground.proofs.Tests.{by-order, by-test}
+use Rattle.ground.proofs.Tests.{by-order, by-test, both-left, both-right}
 use Rattle.words.specs.declared.digits.Radix.{Radix}
 use Rattle.words.specs.declared.digits.Radix.the-variants.{Binary, Decimal, Hexadecimal}
 use Rattle.words.specs.Radix.{baseOf, worth, isDigit}
 use Rattle.words.specs.Run.{from, digits}
 use Rattle.words.specs.Extension.{negative, filled, extended}
 use Rattle.words.proofs.Extends.{extended-wide, extended-positive, extended-negative}
-use Rattle.utf8.proofs.Leads.{both-left, both-right}
 use Rattle.arena.specs.Tree.{BitVector, mostWidth}
 
 -- so many bits more hold one digit more

@@ -11,7 +11,6 @@ use lib.Seq.{take-append-seam}
 use borrow.Author.Tests.{ltb-true}
 use Rattle.refusals.specs.declared.Refusal.{Refusal}
 use Rattle.utf8.specs.Octets.{utf8}
-use Rattle.utf8.proofs.Leads.{both-left, both-right}
 use Rattle.words.specs.declared.digits.Radix.{Radix}
 use Rattle.words.specs.declared.digits.Radix.the-variants.{Binary, Decimal, Hexadecimal}
 use Rattle.words.specs.declared.digits.Parsed.{Parsed}

@@ -30,11 +30,6 @@ pub record FineAtom (c : Scan) (ws x N T S : List ℕ) : Type 0 where
   pub node : FineNode c ws (length x) N S
   pub room : c .text + length x ≤ length T
 
--- what an atom leaves
-pub record Atomed (c : Scan) (ws x N N′ T T′ S : List ℕ) (r : Scan) : Type 0 where
-  pub node : Noded c ws (length x) N N′ S r
-  pub text : T′ ≡ sets T (c .text) x
-
 pub record FineBracket (c : Scan) (Fine : Type 0) : Type 0 where
   pub fine : Fine
   pub depth : c .depth < 2 ^ 63

@@ -1,11 +1,9 @@
 -- The lines of a script are read as the lists of their heads and parts.
 -- Assumes nothing.
-use mathlib.Core.Path.{_≡_, refl, ap}
+use mathlib.Core.Path.{_≡_, refl}
 use mathlib.Core.Bool.{false}
 use mathlib.Core.List.{List, [], _∷_}
-use Prim.Native.Nat.{ℕ, _≤_}
-use lib.ListN.{length}
-use borrow.Author.Tests.{le-leb}
+use Prim.Native.Nat.{ℕ}
 use Rattle.ground.specs.Bytes.{bytes}
 use Rattle.ground.specs.Lists.{joined}
 use Rattle.utf8.specs.Octets.{octets, utf8}
@@ -15,18 +13,16 @@ use Rattle.lexicon.specs.Symbol.{every, oneSymbol}
 use Rattle.arena.specs.Tree.{Tree, Trees, app}
 use Rattle.brackets.specs.Walk.{tree}
 use Rattle.tokens.specs.Piece.{lexAfter}
-use Rattle.reader.specs.Read.{inputLimit, parse, settled, fitted, reading}
-use Rattle.script.specs.Parts.{paired}
-use Rattle.script.specs.Line.{command, pair, isEmpty, assert, declareConst, declareFun, defineFun, withParameters, declareDatatype}
+use Rattle.reader.specs.Read.{parse}
+use Rattle.reader.proofs.Answers.{read-left}
+use Rattle.parts.specs.Parts.{paired}
+use Rattle.parts.specs.Texts.{pair}
+use Rattle.script.specs.Line.{command, isEmpty, assert, declareConst, declareFun, defineFun, withParameters, declareDatatype}
 use Rattle.script_read.specs.Reads.{Expression, Expressions, none, first}
 use Rattle.script_read.specs.Lines.{parametric, Pairs, noPair, firstPair, CommandRead, AssertRead, DeclareConstRead, DeclareFunRead, DefineFunRead, DeclareDatatypeRead}
 use Rattle.script_read.proofs.Walks.{no-tree}
 use Rattle.script_read.proofs.Symbols.{symbol-read}
 use Rattle.script_read.proofs.Lists.{list-is, constructors-are, fed}
-
-read-left : (s N T S : List ℕ) (t : Tree) → parse s ≡ tree t → length s ≤ inputLimit → reading N T S s ≡ fitted N T S t
-unfolding reading
-read-left s N T S t e h = rw (le-leb (length s) inputLimit h) (ap (settled N T S) e)
 
 pub command-read : (parts : List (List ℕ)) (ts : Trees) → CommandRead parts ts
 command-read parts ts xs =

@@ -12,10 +12,11 @@ use Rattle.arena.specs.Tree.{Tree, Trees, app, nil}
 use Rattle.brackets.specs.Token.{opens, closes}
 use Rattle.brackets.specs.Walk.{Walk, going, walk, tree, finish}
 use Rattle.tokens.specs.Lexeme.{lexemeAt}
-use Rattle.tokens.specs.Piece.{pieceAt, ok, more, lexAfter, lex}
-use Rattle.tokens.proofs.Lexes.{lex-nil}
+use Rattle.tokens.specs.Piece.{ok, more}
+use Rattle.tokens.proofs.Lexes.{lex-nil, lex-opening, lex-closing}
 use Rattle.reader.specs.Read.{outcome, parse}
-use Rattle.script.specs.Line.{list, constructorList}
+use Rattle.parts.specs.Texts.{list}
+use Rattle.script.specs.Line.{constructorList}
 use Rattle.script_read.specs.Reads.{outsideAfter, outside, Expression, Expressions}
 use Rattle.script_read.proofs.Stops.{Stops}
 use Rattle.script_read.proofs.Walks.{walk-append}
@@ -24,14 +25,6 @@ use Rattle.script_read.proofs.Rows.{Row, row-one, row-lex, row-ends, fe
 closing-stops : Stops 0x29
 unfolding classOf inSymbol worth
 closing-stops = record { symbol = refl; digit = refl; quote = refl }
-
-lex-opening : (s : List ℕ) → lex (0x28 ∷ s) ≡ more opens (lex s)
-unfolding lexAfter pieceAt lexemeAt classOf
-lex-opening s = refl
-
-lex-closing : lex (0x29 ∷ []) ≡ ok (closes ∷ [])
-unfolding lexAfter pieceAt lexemeAt classOf
-lex-closing = refl
 
 outside-opening : (s : List ℕ) → outside (0x28 ∷ s) ≡ outside s
 unfolding outsideAfter lexemeAt classOf
@@ -45,7 +38,7 @@ bracketed : {s : List ℕ} {ts : Trees} → Row s ts → Expression (0x28 ∷ (s
 unfolding parse
 bracketed {s} {ts} r = record {
   parsed =
-      ap outcome (lex-opening (s ++ (0x29 ∷ [])) ∙ ap (more opens) (row-lex r 0x29 [] closing-stops lex-closing))
+      ap outcome (lex-opening (s ++ (0x29 ∷ [])) ∙ ap (more opens) (row-lex r 0x29 [] closing-stops (lex-closing [] ∙ ap (more closes) lex-nil)))
       ∙ ap finish (walk-append (going (nil ∷ [])) (r .tokens) (closes ∷ []) ∙ ap (λ (w : Walk). walk w (closes ∷ [])) (r .walked nil []));
   ends = outside-opening (s ++ (0x29 ∷ [])) ∙ row-ends r 0x29 [] closing-stops ∙ outside-closing;
 }

@@ -11,14 +11,16 @@ use Rattle.lexicon.specs.Span.{inSymbol}
 use Rattle.arena.specs.Tree.{Tree, Trees, nil, cons}
 use Rattle.brackets.specs.Token.{Token}
 use Rattle.brackets.specs.Walk.{Walk, going, walk, tree}
+use Rattle.brackets.proofs.Snoc.{chain, chain-nil, chain-chain, chain-one}
 use Rattle.tokens.specs.Lexeme.{lexemeAt}
 use Rattle.tokens.specs.Piece.{pieceAt, Lexed, ok, bad, lexAfter, lex}
 use Rattle.tokens.proofs.Lexes.{lex-nil}
 use Rattle.reader.specs.Read.{outcome, parse}
+use Rattle.reader.proofs.Holds.{finished}
 use Rattle.script_read.specs.Reads.{outsideAfter, outside, Expression, Expressions, none, first}
 use Rattle.script_read.proofs.Stops.{Stops}
 use Rattle.script_read.proofs.Joins.{faultless, then, joined-lex, joined-outside}
-use Rattle.script_read.proofs.Walks.{chain, chain-nil, chain-chain, chain-one, walk-append, below, no-tree, finished}
+use Rattle.script_read.proofs.Walks.{walk-append, below, no-tree}
 
 -- bytes whose tokens add these trees to the innermost open list
 pub record Row (s : List ℕ) (ts : Trees) : Type 0 where

@@ -4,26 +4,9 @@ use mathlib.Core.Path.{_≡_, refl, sym, ap, _∙_}
 use mathlib.Core.Bool.{Bool, true, false, false≢true}
 use mathlib.Core.List.{List, [], _∷_, _++_}
 use Rattle.refusals.specs.declared.Refusal.{Refusal}
-use Rattle.arena.specs.Tree.{Tree, Trees, app, nil, cons}
+use Rattle.arena.specs.Tree.{Tree, Trees, app, nil}
 use Rattle.brackets.specs.Token.{Token, opens, closes, atom, leaf}
-use Rattle.brackets.specs.Walk.{snoc, Walk, going, done, fault, add, close, step, walk, Outcome, tree, refused, finish}
-
--- trees after others
-abbrev pub chain : Trees → Trees → Trees
-chain nil ts = ts
-chain (cons k ks) ts = cons k (chain ks ts)
-
-pub chain-nil : (ks : Trees) → chain ks nil ≡ ks
-chain-nil nil = refl
-chain-nil (cons k ks) = ap (cons k) (chain-nil ks)
-
-pub chain-chain : (ks ts us : Trees) → chain (chain ks ts) us ≡ chain ks (chain ts us)
-chain-chain nil ts us = refl
-chain-chain (cons k ks) ts us = ap (cons k) (chain-chain ks ts us)
-
-pub chain-one : (ks : Trees) (t : Tree) → snoc ks t ≡ chain ks (cons t nil)
-chain-one nil t = refl
-chain-one (cons k ks) t = ap (cons k) (chain-one ks t)
+use Rattle.brackets.specs.Walk.{snoc, Walk, going, done, fault, add, close, step, walk, Outcome, tree, refused}
 
 pub walk-append : (w : Walk) (xs ys : List Token) → walk w (xs ++ ys) ≡ walk (walk w xs) ys
 walk-append w [] ys = refl
@@ -71,14 +54,5 @@ abbrev isTree : Outcome → Bool
 isTree (tree t) = true
 isTree (refused why) = false
 
-abbrev outcomeTree : Tree → Outcome → Tree
-outcomeTree other (tree t) = t
-outcomeTree other (refused why) = other
-
 pub no-tree : {why : Refusal} {t : Tree} {P : Type 0} → refused why ≡ tree t → P
 no-tree e = absurd (false≢true (ap isTree e))
-
-pub finished : (w : Walk) (t : Tree) → finish w ≡ tree t → w ≡ done t
-finished (going st) t h = no-tree h
-finished (done k) t h = ap (λ (o : Outcome). done (outcomeTree k o)) h
-finished (fault why) t h = no-tree h

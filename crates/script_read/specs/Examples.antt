@@ -13,7 +13,7 @@ use Rattle.brackets.specs.Walk.{tree, refused}
 use Rattle.tokens.specs.Lexeme.{inside, lexemeAt}
 use Rattle.tokens.specs.Piece.{pieceAt, lexAfter}
 use Rattle.reader.specs.Read.{parse}
-use Rattle.script.specs.Parts.{paired}
+use Rattle.parts.specs.Parts.{paired}
 use Rattle.script.specs.Line.{assert, declareConst, defineFun}
 use Rattle.script_read.specs.Reads.{outsideAfter, outside, Expression}
 use Rattle.script_read.specs.Lines.{word}

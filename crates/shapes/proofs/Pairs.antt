@@ -1,7 +1,7 @@
 -- Applications to two arguments of which the first is a symbol: (as none T), (as set.empty T), (_ bvN W).
 -- Assumes nothing.
 use mathlib.Core.Path.{_≡_, refl, sym, ap, _∙_, subst}
-use mathlib.Core.Bool.{Bool, true, false, cond, true≢false, _&&_}
+use mathlib.Core.Bool.{Bool, true, false, cond, true≢false}
 use mathlib.Core.List.{List, [], _∷_, _++_}
 use Prim.Native.Nat.{ℕ, suc, _+_, _*_, _-_, _^_, _<_, _≤_}
 use Prim.Native.String.{String}
@@ -10,7 +10,7 @@ use lib.Dec.{eqb}
 use lib.ListN.{length, take, drop, length-drop}
 use lib.Seq.{length-take-le, take-add, drop-drop}
 use Rattle.ground.specs.Bytes.{bytes}
-use Rattle.ground.proofs.Tests.{by-order}
+use Rattle.ground.proofs.Tests.{by-order, and-true}
 use Rattle.arena.specs.Node.{afterAt}
 use Rattle.arena.specs.Text.{textAt, sameText, textIs}
 use Rattle.arena.specs.Tree.{Tree, Trees, numeral, symbol, nil, cons}
@@ -19,8 +19,9 @@ use Rattle.shapes.specs.declared.shape.Found.{Found}
 use Rattle.shapes.specs.declared.look.Word.{Word}
 use Rattle.shapes.specs.declared.look.Index.{Index}
 use Rattle.shapes.specs.Shape.{Shape, made, indexed, is, onBv, onSymbol, indexShape, wordShape, pairShape}
-use Rattle.shapes.specs.Shows.{Standing, StandingAll, Reads, Shows, TwoAt, IndexAt, WordAt, IndexOf}
-use Rattle.shapes.proofs.Stood.{first-of, others-of, said-so, said-name}
+use Rattle.shapes.specs.Shows.{StandingAll, Reads, Shows, TwoAt, IndexAt, WordAt, IndexOf}
+use Rattle.shapes.proofs.Stood.{first-of, second-of, said-so, said-name}
+use Rattle.shapes.proofs.Seen.{seen-word}
 use Rattle.shapes.proofs.Arms.{not-symbol, not-numeral, shown-as}
 
 -- the text is read apart: its first two bytes, and the others
@@ -28,10 +29,6 @@ bv-short {ℓ} : {A : Type ℓ} (g : List ℕ) (d : A) (k : List ℕ → A) → 
 bv-short [] d k h = refl
 bv-short (a ∷ []) d k h = refl
 bv-short (a ∷ b ∷ g) d k h = absurd (omega arith)
-
-and-true : (x : Bool) → (x && true) ≡ x
-and-true true = refl
-and-true false = refl
 
 bv-split {ℓ} : {A : Type ℓ} (p q : List ℕ) (d : A) (k : List ℕ → A) → length p ≡ 2 → onBv (p ++ q) d k ≡ cond (sameText p (bytes "bv")) (k q) d
 unfolding sameText
@@ -85,18 +82,15 @@ module _ (ws ts : List ℕ) (offset size first : ℕ) where
   two-made f a b r s = (f, cons a (cons b nil), refl, r, s)
 
   module _ (off long second : ℕ) (here : second ≡ afterAt ws first) where
-    second-of : (a b : Tree) → StandingAll (cons a (cons b nil)) ws ts first 2 → Standing b ws ts second
-    second-of a b s = first-of ws ts b nil second 1 (others-of ws ts a (cons b nil) first 2 s second 1 here refl)
-
     pub index-other : (w : Index) → IndexOf ws second w → w ≡ Index.NoNumeral → IndexAt ws ts offset size off long first (Found.Made offset size first 2)
     index-other w h e f g b r q s =
         let n = subst (λ (x : Index). IndexOf ws second x) e h in
         shown-as ws ts (Found.Made offset size first 2) (indexShape f g b) (made f (cons (symbol g) (cons b nil)))
-        (not-numeral b _ _ (n ts b (second-of (symbol g) b s))) (two-made f (symbol g) b r s)
+        (not-numeral b _ _ (n ts b (second-of ws ts first second here (symbol g) b s))) (two-made f (symbol g) b r s)
 
     module _ (w : Index) (low high : ℕ) (h : IndexOf ws second w) (e : w ≡ Index.Numeral low high) where
       number : (a b : Tree) → StandingAll (cons a (cons b nil)) ws ts first 2 → b ≡ numeral (low + high * 2 ^ 64)
-      number a b s = subst (λ (x : Index). IndexOf ws second x) e h ts b (second-of a b s)
+      number a b s = subst (λ (x : Index). IndexOf ws second x) e h ts b (second-of ws ts first second here a b s)
 
       abbrev Named : List ℕ → List ℕ → Tree → Shape
       Named f g b = made f (cons (symbol g) (cons b nil))
@@ -130,9 +124,6 @@ module _ (ws ts : List ℕ) (offset size first : ℕ) where
       (not-symbol a _ _ (n ts a (first-of ws ts a (cons b nil) first 2 s))) (two-made f a b r s)
 
   module _ (w : Word) (off long : ℕ) (h : WordAt ws first w) (e : w ≡ Word.Symbol long off) where
-    word : (a b : Tree) → StandingAll (cons a (cons b nil)) ws ts first 2 → (g : List ℕ) × (a ≡ symbol g) × Reads g ts off long
-    word a b s = subst (λ (x : Word). WordAt ws first x) e h ts a (first-of ws ts a (cons b nil) first 2 s)
-
     so : (f : List ℕ) → Reads f ts offset size → (name : List ℕ) (t : Bool) → textIs ts offset size name ≡ t → sameText f name ≡ t
     so f r name t k = said-so ts offset size f r name t k
 
@@ -143,7 +134,7 @@ module _ (ws ts : List ℕ) (offset size first : ℕ) where
     by-symbol : (q : Found) → ((f g : List ℕ) (b : Tree) → Reads f ts offset size → Reads g ts off long → StandingAll (cons (symbol g) (cons b nil)) ws ts first 2 → Shows ws ts q (wordShape f g b)) →
         TwoAt pairShape ws ts offset size first q
     by-symbol q k f a b r s =
-        let g = word a b s in
+        let g = seen-word ws first w h ts long off e a (first-of ws ts a (cons b nil) first 2 s) in
         subst (λ (x : Tree). Shows ws ts q (pairShape f x b)) (sym (g .1))
         (k f (g .0) b r (g .2) (subst (λ (x : Tree). StandingAll (cons x (cons b nil)) ws ts first 2) (g .1) s))
 
@@ -168,9 +159,9 @@ module _ (ws ts : List ℕ) (offset size first : ℕ) where
           pub pair-none : textIs ts off long (bytes "none") ≡ true → TwoAt pairShape ws ts offset size first (Found.AsNone second)
           pair-none n =
               by-symbol (Found.AsNone second)
-              (λ f g b r u s. (b, rw (so f r (bytes "as") true t, so-too g u (bytes "none") true n), second-of off long second here (symbol g) b s))
+              (λ f g b r u s. (b, rw (so f r (bytes "as") true t, so-too g u (bytes "none") true n), second-of ws ts first second here (symbol g) b s))
 
           pub pair-empty : textIs ts off long (bytes "none") ≡ false → textIs ts off long (bytes "set.empty") ≡ true → TwoAt pairShape ws ts offset size first (Found.AsEmpty second)
           pair-empty n m =
               by-symbol (Found.AsEmpty second)
-              (λ f g b r u s. (b, rw (so f r (bytes "as") true t, so-too g u (bytes "none") false n, so-too g u (bytes "set.empty") true m), second-of off long second here (symbol g) b s))
+              (λ f g b r u s. (b, rw (so f r (bytes "as") true t, so-too g u (bytes "none") false n, so-too g u (bytes "set.empty") true m), second-of ws ts first second here (symbol g) b s))

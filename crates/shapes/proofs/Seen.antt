@@ -16,11 +16,12 @@ module _ (ws : List ℕ) (i : ℕ) (w : Word) (h : WordAt ws i w) (ts : List ℕ
   pub not-word : w ≡ Word.NoSymbol → (a : Tree) → Standing a ws ts i → onSymbol a false (λ s. true) ≡ false
   not-word e a s = subst (λ (x : Word). WordAt ws i x) e h ts a s
 
+  pub seen-word : (size offset : ℕ) → w ≡ Word.Symbol size offset → (a : Tree) → Standing a ws ts i → (f : List ℕ) × (a ≡ symbol f) × Reads f ts offset size
+  seen-word size offset e a s = subst (λ (x : Word). WordAt ws i x) e h ts a s
+
   -- as for a symbol, so for the tree
   pub by-word : (size offset : ℕ) → w ≡ Word.Symbol size offset → (P : Tree → Type 0) → ((f : List ℕ) → Reads f ts offset size → P (symbol f)) → (a : Tree) → Standing a ws ts i → P a
-  by-word size offset e P k a s =
-      let g = subst (λ (x : Word). WordAt ws i x) e h ts a s in
-      subst P (sym (g .1)) (k (g .0) (g .2))
+  by-word size offset e P k a s = let g = seen-word size offset e a s in subst P (sym (g .1)) (k (g .0) (g .2))
 
 module _ (ws : List ℕ) (i : ℕ) (p : Parts) (h : PartsAt ws i p) where
   pub not-list : p ≡ Parts.NoList → (ts : List ℕ) (a : Tree) → Standing a ws ts i → onApp a false (λ us. true) ≡ false

@@ -16,7 +16,8 @@ use Rattle.shapes.specs.declared.look.Parts.{Parts}
 use Rattle.shapes.specs.Shape.{onApp}
 use Rattle.shapes.specs.Shows.{Standing, StandingAll, Reads, WordAt, IndexOf, PartsAt}
 use Rattle.shapes.specs.SortShape.{SortShape, noSort, sortTwo, sortApplied, sortList, sortShape, SortShows, SortShapeAt, SortListAt, SortOneAt, SortTwoAt}
-use Rattle.shapes.proofs.Stood.{first-of, others-of, said-so}
+use Rattle.shapes.proofs.Stood.{first-of, others-of, second-of, said-so}
+use Rattle.shapes.proofs.Seen.{seen-word}
 use Rattle.shapes.proofs.Arms.{not-symbol, not-numeral, not-app}
 
 module _ (ws ts : List ℕ) (offset size first : ℕ) where
@@ -36,21 +37,18 @@ module _ (ws ts : List ℕ) (offset size first : ℕ) where
 
   module _ (w : Word) (off long : ℕ) (h : WordAt ws first w) (e : w ≡ Word.Symbol long off) (second : ℕ) (here : second ≡ afterAt ws first) where
     word : (a b : Tree) → StandingAll (cons a (cons b nil)) ws ts first 2 → (g : List ℕ) × (a ≡ symbol g) × Reads g ts off long
-    word a b s = subst (λ (x : Word). WordAt ws first x) e h ts a (first-of ws ts a (cons b nil) first 2 s)
-
-    then : (a b : Tree) → StandingAll (cons a (cons b nil)) ws ts first 2 → Standing b ws ts second
-    then a b s = first-of ws ts b nil second 1 (others-of ws ts a (cons b nil) first 2 s second 1 here refl)
+    word a b s = seen-word ws first w h ts long off e a (first-of ws ts a (cons b nil) first 2 s)
 
     pub two-index : (i : Index) → IndexOf ws second i → i ≡ Index.NoNumeral → SortTwoAt ws ts offset size first SortFound.NoSort
     two-index i k d f a b r s =
         let n = subst (λ (x : Index). IndexOf ws second x) d k in
-        ap (λ (x : Tree). sortTwo f x b) (word a b s .1) ∙ not-numeral b _ _ (n ts b (then a b s))
+        ap (λ (x : Tree). sortTwo f x b) (word a b s .1) ∙ not-numeral b _ _ (n ts b (second-of ws ts first second here a b s))
 
     module _ (i : Index) (low high : ℕ) (k : IndexOf ws second i) (d : i ≡ Index.Numeral low high) where
       as-two : (f : List ℕ) (a b : Tree) (s : StandingAll (cons a (cons b nil)) ws ts first 2) → sortTwo f a b ≡ sortTwo f (symbol (word a b s .0)) (numeral (low + high * 2 ^ 64))
       as-two f a b s =
           ap (λ (x : Tree). sortTwo f x b) (word a b s .1)
-          ∙ ap (λ (x : Tree). sortTwo f (symbol (word a b s .0)) x) (subst (λ (x : Index). IndexOf ws second x) d k ts b (then a b s))
+          ∙ ap (λ (x : Tree). sortTwo f (symbol (word a b s .0)) x) (subst (λ (x : Index). IndexOf ws second x) d k ts b (second-of ws ts first second here a b s))
 
       pub two-other : textIs ts offset size (bytes "_") ≡ false → SortTwoAt ws ts offset size first SortFound.NoSort
       two-other n f a b r s = as-two f a b s ∙ rw (said-so ts offset size f r (bytes "_") false n)
@@ -74,7 +72,7 @@ module _ (ws ts : List ℕ) (i many : ℕ) where
 
   module _ (w : Word) (offset size : ℕ) (h : WordAt ws i w) (e : w ≡ Word.Symbol size offset) (first : ℕ) (here : first ≡ afterAt ws i) where
     head : (a : Tree) (us : Trees) → StandingAll (cons a us) ws ts i many → (f : List ℕ) × (a ≡ symbol f) × Reads f ts offset size
-    head a us s = subst (λ (x : Word). WordAt ws i x) e h ts a (first-of ws ts a us i many s)
+    head a us s = seen-word ws i w h ts size offset e a (first-of ws ts a us i many s)
 
     -- as for a symbol and the parts behind it
     by-head : (n : ℕ) → many ≡ suc n → (q : SortFound) → ((f : List ℕ) (us : Trees) → Reads f ts offset size → StandingAll us ws ts first n → SortShows ws ts q (sortApplied f us)) → SortListAt ws ts i many q
@@ -111,7 +109,7 @@ module _ (ws ts : List ℕ) (i : ℕ) (w : Word) (h : WordAt ws i w) where
   pub sort-word : (offset size : ℕ) → w ≡ Word.Symbol size offset → SortShapeAt ws ts i (SortFound.Word offset size)
   unfolding sortShape
   sort-word offset size e t s =
-      let g = subst (λ (x : Word). WordAt ws i x) e h ts t s in
+      let g = seen-word ws i w h ts size offset e t s in
       (g .0, ap sortShape (g .1), g .2)
 
   module _ (e : w ≡ Word.NoSymbol) (p : Parts) (k : PartsAt ws i p) where

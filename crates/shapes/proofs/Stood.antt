@@ -30,6 +30,10 @@ module _ (ws ts : List ℕ) (a : Tree) (us : Trees) (i k : ℕ) (s : StandingAll
         many-are = omega arith;
       }
 
+-- the second of two
+pub second-of : (ws ts : List ℕ) (first second : ℕ) → second ≡ afterAt ws first → (a b : Tree) → StandingAll (cons a (cons b nil)) ws ts first 2 → Standing b ws ts second
+second-of ws ts first second here a b s = first-of ws ts b nil second 1 (others-of ws ts a (cons b nil) first 2 s second 1 here refl)
+
 module _ (ts : List ℕ) (offset size : ℕ) (f : List ℕ) (r : Reads f ts offset size) where
   -- the test of the text is the test of the name
   pub said : (name : List ℕ) → textIs ts offset size name ≡ sameText f name

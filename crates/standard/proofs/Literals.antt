@@ -9,7 +9,7 @@ use lib.Dec.{leb, eqb, ltb}
 use lib.ListN.{length, length-append}
 use lib.Seq.{take-append-seam, drop-append-add}
 use borrow.Author.Tests.{ltb-true, lt-ltb, lt-leb, not-true}
-use Rattle.utf8.proofs.Leads.{both-left, both-right}
+use Rattle.ground.proofs.Tests.{both-left, both-right}
 use Rattle.strings.specs.Points.{points}
 use Rattle.strings.specs.Text.{encodings, anySurrogate}
 use Rattle.theory.specs.Literal as L

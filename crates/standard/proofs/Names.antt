@@ -9,8 +9,9 @@ use lib.Dec.{eqb, ltb}
 use lib.ListN.{length}
 use lib.Seq.{take-append-seam, drop-append-seam}
 use borrow.Author.Tests.{eqb-true, ltb-true}
+use Rattle.ground.proofs.Tests.{both-left, both-right}
 use Rattle.utf8.specs.Octets.{octets, utf8}
-use Rattle.utf8.proofs.Leads.{both-left, both-right, row-tells}
+use Rattle.utf8.proofs.Leads.{row-tells}
 use Rattle.lexicon.specs.Class.{classOf}
 use Rattle.lexicon.specs.Span.{inSymbol}
 use Rattle.brackets.specs.Token.{name, atom}

@@ -1,4 +1,4 @@
--- White space and comments bring no token, brackets bring theirs.
+-- White space and comments bring no token.
 -- Assumes nothing.
 use mathlib.Core.Path.{_≡_, refl, sym, ap, _∙_}
 use mathlib.Core.Bool.{true, false, not, false≢true}
@@ -13,11 +13,10 @@ use borrow.Author.Tests.{eqb-true}
 use Rattle.ground.proofs.Tests.{by-test}
 use Rattle.lexicon.specs.Class.{classOf}
 use Rattle.lexicon.specs.Span.{spanBy, inLine, lineSpan}
-use Rattle.brackets.specs.Token.{opens, closes}
-use Rattle.tokens.specs.declared.lexeme.Kind.the-variants.{Blank, Opening, Closing}
+use Rattle.tokens.specs.declared.lexeme.Kind.the-variants.{Blank}
 use Rattle.tokens.specs.declared.lexeme.Lexeme.{Lexeme}
 use Rattle.tokens.specs.Lexeme.{lexeme, single, byClass, lexemeAt}
-use Rattle.tokens.specs.Piece.{pieceOf, pieceAt, more, emit, lex}
+use Rattle.tokens.specs.Piece.{pieceOf, pieceAt, emit, lex}
 use Rattle.tokens.proofs.Lexes.{lex-at}
 use Rattle.standard.specs.Bytes.{among, every, whiteSpaces, lineEnds}
 use Rattle.standard.specs.Limits.{lineFed}
@@ -43,14 +42,6 @@ white-class b h = eqb-true (classOf b) 0 (pass (λ (c : ℕ). eqb (classOf c) 0)
 
 pub lex-white : (b : ℕ) (s : List ℕ) → among whiteSpaces b ≡ true → lex (b ∷ s) ≡ lex s
 lex-white b s h = one-piece b s s (single Blank) (at-class 0 b s (white-class b h)) refl
-
-pub lex-opening : (s : List ℕ) → lex (0x28 ∷ s) ≡ more opens (lex s)
-unfolding classOf
-lex-opening s = one-piece 0x28 s s (single Opening) (at-class 1 0x28 s refl) refl
-
-pub lex-closing : (s : List ℕ) → lex (0x29 ∷ s) ≡ more closes (lex s)
-unfolding classOf
-lex-closing s = one-piece 0x29 s s (single Closing) (at-class 2 0x29 s refl) refl
 
 -- a comment's bytes, and what of the rest its line still has
 line : (x s : List ℕ) → every inLine x ≡ true → lex (0x3B ∷ (x ++ s)) ≡ lex (drop (lineSpan s) s)

@@ -5,7 +5,7 @@ use mathlib.Core.Bool.{true}
 use mathlib.Core.List.{List, [], _∷_, _++_}
 use Prim.Native.Nat.{ℕ, _*_}
 use lib.ListN.{length}
-use Rattle.utf8.proofs.Leads.{both-left, both-right}
+use Rattle.ground.proofs.Tests.{both-left, both-right}
 use Rattle.words.specs.Run as Run
 use Rattle.words.specs.Extension.{extended}
 use Rattle.strings.specs.Text.{encodings}
@@ -14,10 +14,10 @@ use Rattle.theory.specs.Theory.{characters}
 use Rattle.brackets.specs.Token as B
 use Rattle.brackets.specs.Token.{bits, number, quoted, name}
 use Rattle.tokens.specs.Piece.{ok, more, lex}
-use Rattle.tokens.proofs.Lexes.{lex-nil}
+use Rattle.tokens.proofs.Lexes.{lex-nil, lex-opening, lex-closing}
 use Rattle.standard.specs.Written.{Atom, numeral, decimal, hexadecimal, binary, literal, simple, barred, keyword, spelling, WellFormed, Token, opens, closes, atom, ended, Spells, nothing, white, comment, opening, closing, token}
 use Rattle.standard.specs.Limits.{Covered, lineFed, noLoneReturn}
-use Rattle.standard.proofs.Separators.{lex-white, lex-comment, lex-opening, lex-closing}
+use Rattle.standard.proofs.Separators.{lex-white, lex-comment}
 use Rattle.standard.proofs.Numbers.{lex-numeral, lex-hexadecimal, lex-binary}
 use Rattle.standard.proofs.Names.{lex-simple, lex-keyword}
 use Rattle.standard.proofs.Literals.{lex-literal}

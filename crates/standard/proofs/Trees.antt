@@ -3,13 +3,13 @@
 use mathlib.Core.Path.{_≡_, refl, sym, ap, _∙_}
 use mathlib.Core.Bool.{true}
 use mathlib.Core.List.{List, [], _∷_}
-use Prim.Native.Nat.{ℕ, _≤_}
-use lib.ListN.{length}
-use borrow.Author.Tests.{le-leb}
-use Rattle.arena.specs.Tree.{Tree, Trees, nil, cons}
+use Prim.Native.Nat.{ℕ}
+use Rattle.arena.specs.Tree.{Tree, Trees, nil}
 use Rattle.brackets.specs.Token.{leaf}
 use Rattle.brackets.specs.Walk.{snoc, going, add, walk, Outcome, tree, refused, finish}
-use Rattle.reader.specs.Read.{inputLimit, outcome, parse, settled, fitted, reading}
+use Rattle.brackets.proofs.Snoc.{chain, chain-nil, chain-snoc}
+use Rattle.reader.specs.Read.{outcome, parse}
+use Rattle.reader.proofs.Answers.{read-left}
 use Rattle.standard.specs.Written.{Atom, numeral, decimal, hexadecimal, binary, literal, simple, barred, keyword, Token, closes, Expression, Expressions, one, several, none, first, tokens, tokensOf, Written}
 use Rattle.standard.specs.Image.{imageOf, image, images}
 use Rattle.standard.specs.Limits.{Within, WithinAll, noLoneReturn}
@@ -26,19 +26,6 @@ leaf-is (simple s) = refl
 leaf-is (barred s) = refl
 leaf-is (keyword s) = refl
 
--- trees after others
-abbrev joined : Trees → Trees → Trees
-joined nil ts = ts
-joined (cons k ks) ts = cons k (joined ks ts)
-
-joined-nil : (ks : Trees) → joined ks nil ≡ ks
-joined-nil nil = refl
-joined-nil (cons k ks) = ap (cons k) (joined-nil ks)
-
-joined-snoc : (ks : Trees) (t : Tree) (ts : Trees) → joined (snoc ks t) ts ≡ joined ks (cons t ts)
-joined-snoc nil t ts = refl
-joined-snoc (cons k ks) t ts = ap (cons k) (joined-snoc ks t ts)
-
 -- the tokens of an S-expression bring its image to the innermost open list
 mutual
   walk-one : (x : Expression) (st : List Trees) (us : List Token) → walk (going st) (ours (tokens x us)) ≡ walk (add st (image x)) (ours us)
@@ -46,11 +33,11 @@ mutual
   walk-one (several xs) st us = walk-all xs nil st (closes ∷ us)
 
   walk-all : (xs : Expressions) (ks : Trees) (st : List Trees) (us : List Token)
-      → walk (going (ks ∷ st)) (ours (tokensOf xs us)) ≡ walk (going (joined ks (images xs) ∷ st)) (ours us)
-  walk-all none ks st us = ap (λ (l : Trees). walk (going (l ∷ st)) (ours us)) (sym (joined-nil ks))
+      → walk (going (ks ∷ st)) (ours (tokensOf xs us)) ≡ walk (going (chain ks (images xs) ∷ st)) (ours us)
+  walk-all none ks st us = ap (λ (l : Trees). walk (going (l ∷ st)) (ours us)) (sym (chain-nil ks))
   walk-all (first x xs) ks st us =
       walk-one x (ks ∷ st) (tokensOf xs us) ∙ walk-all xs (snoc ks (image x)) st us
-      ∙ ap (λ (l : Trees). walk (going (l ∷ st)) (ours us)) (joined-snoc ks (image x) (images xs))
+      ∙ ap (λ (l : Trees). walk (going (l ∷ st)) (ours us)) (chain-snoc ks (image x) (images xs))
 
 mutual
   covered : (x : Expression) (us : List Token) → Within x → CoveredAll us → CoveredAll (tokens x us)
@@ -64,10 +51,6 @@ mutual
 read-parsed : (x : Expression) (s : List ℕ) (w : Written x s) → Within x → noLoneReturn w ≡ true → parse s ≡ tree (image x)
 unfolding parse
 read-parsed x s w h k = ap outcome (lex-spells w (covered x [] h tt) k) ∙ ap finish (walk-one x [] [])
-
-read-left : (s N T S : List ℕ) (t : Tree) → parse s ≡ tree t → length s ≤ inputLimit → reading N T S s ≡ fitted N T S t
-unfolding reading
-read-left s N T S t e h = rw (le-leb (length s) inputLimit h) (ap (settled N T S) e)
 
 pub standard-read : (x : Expression) (s : List ℕ) (w : Written x s) → ReadAsImage x s w
 standard-read x s w = record {

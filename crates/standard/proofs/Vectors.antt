@@ -9,8 +9,7 @@ use native.Mathlib.Omega.{arith}
 use lib.ListN.{length}
 use lib.Pow.{pow-add, pow-mono}
 use borrow.Author.Tests.{ltb-true}
-use Rattle.ground.proofs.Tests.{by-order}
-use Rattle.utf8.proofs.Leads.{both-left, both-right}
+use Rattle.ground.proofs.Tests.{by-order, both-left, both-right}
 use Rattle.words.specs.declared.digits.Radix.{Radix}
 use Rattle.words.specs.declared.digits.Radix.the-variants.{Binary, Hexadecimal}
 use Rattle.words.specs.Radix.{baseOf, worth, isDigit}

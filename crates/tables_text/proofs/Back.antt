@@ -13,9 +13,9 @@ use lib.Seq.{take-at, drop-at, take-length, drop-length, append-snoc}
 use borrow.Author.Tests.{ltb-true, leb-true}
 use Rattle.ground.specs.Bytes.{bytes}
 use Rattle.ground.specs.Lists.{joined, all, at, distinct}
-use Rattle.ground.proofs.Tests.{by-test}
+use Rattle.ground.specs.Options.{over}
+use Rattle.ground.proofs.Tests.{by-test, both-left, both-right}
 use Rattle.utf8.specs.Octets.{utf8}
-use Rattle.utf8.proofs.Leads.{both-left, both-right}
 use Rattle.lexicon.specs.Span.{spanBy}
 use Rattle.lexicon.specs.Symbol.{every}
 use Rattle.arena.specs.Text.{sameText}
@@ -24,7 +24,7 @@ use Rattle.tables.specs.Sort as Sort
 use Rattle.tables.specs.Sort.{Sort, bool, string, ext, bitVec, optionOf, setOf, entityOf, recordOf, Variable, Function, Member, Tables}
 use Rattle.tables.specs.Rules.{rowLimit, nameLimit, fieldLimit, widthLimit, nameRight, ownName, isEntity, present, sortRight, sortsRight, sameSort, table, lawful, variableRight, functionRight, memberRight}
 use Rattle.tables_text.specs.Line.{sortLine, variableLine, functionLine, memberLine, lines, written, oneLine, writable}
-use Rattle.tables_text.specs.Parse.{over, begins, apart, spanTo, space, lineFeed, Cut, cutAt, led, further, numerals, recordIn, namedForm, numberedForm, form, sortIn, variableAfter, variableIn, functionAfter, functionIn, memberAfter, memberIn, Walked, lineRow, walk, sortRows, variableRows, functionRows, memberRows, parse}
+use Rattle.tables_text.specs.Parse.{begins, apart, spanTo, space, lineFeed, Cut, cutAt, led, further, numerals, recordIn, namedForm, numberedForm, form, sortIn, variableAfter, variableIn, functionAfter, functionIn, memberAfter, memberIn, Walked, lineRow, walk, sortRows, variableRows, functionRows, memberRows, parse}
 use Rattle.tables_text.proofs.Cuts.{clear, span-clear, span-whole, cut-clear}
 use Rattle.tables_text.proofs.Numerals.{numeral-back}
 use Rattle.tables_text.proofs.Fields.{pieces-span}

@@ -1,10 +1,10 @@
 -- Tables that pass the check, and whose members' texts hold no line feed, have a text that reads back to the same tables.
 -- Assumes nothing.
 use mathlib.Core.Path.{_≡_, refl, sym, ap, _∙_}
-use mathlib.Core.Bool.{Bool, true, false, _&&_}
-use Prim.Native.Nat.{ℕ, _≤_}
-use native.Mathlib.Omega.{arith}
+use mathlib.Core.Bool.{true}
+use Prim.Native.Nat.{_≤_}
 use lib.ListN.{length}
+use Rattle.ground.proofs.Tests.{both-right}
 use Rattle.tables.specs.Sort.{Tables}
 use Rattle.tables.specs.Layout.{Lent, tablesOf, formed}
 use Rattle.tables.specs.Rules.{lawful}
@@ -16,10 +16,6 @@ use Rattle.tables_text.specs.Read.{textLimit, Buffers, fitted, Leaves, R
 use Rattle.tables_text.proofs.Meanings.{laid-means}
 use Rattle.tables_text.proofs.Readings.{passes-lawful, reads-back}
 
-second : (a b : Bool) → (a && b) ≡ true → b ≡ true
-second true b e = e
-second false b e = let z : _≡_ {A = ℕ} 0 1 = cc in absurd (omega arith)
-
 -- what is read back: the rows over the text, which mean the same tables and pass the check again
 pub record ReadsBack (l : Lent) (entry : Buffers) (r : TablesRead) (exit : Buffers) : Type 0 where
   pub left : Leaves (fitted entry (laid (tablesOf l) (written (tablesOf l)))) r exit
@@ -30,7 +26,7 @@ pub checked-reads-back : (l : Lent) (entry : Buffers) {r : TablesRead} {exit : B
     → Reads (written (tablesOf l)) entry r exit → ReadsBack l entry r exit
 unfolding passes
 checked-reads-back l entry p w k d =
-    let h : lawful (tablesOf l) ≡ true = second (formed l) (lawful (tablesOf l)) p in
+    let h : lawful (tablesOf l) ≡ true = both-right (formed l) (lawful (tablesOf l)) p in
     record {
       left = reads-back (tablesOf l) entry h w k d;
       means = laid-means (tablesOf l);

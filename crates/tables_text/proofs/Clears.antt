@@ -1,7 +1,7 @@
 -- Names and numbers have no space and no line feed in them.
 -- Assumes nothing.
 use mathlib.Core.Path.{_≡_, refl, sym, ap, _∙_}
-use mathlib.Core.Bool.{Bool, true, false, not, _&&_, _||_, true≢false}
+use mathlib.Core.Bool.{Bool, true, false, not, _||_, true≢false}
 use mathlib.Core.List.{List, [], _∷_, _++_}
 use Prim.Native.Nat.{ℕ, zero, suc, _+_, _/_, _%_, _<_}
 use native.Mathlib.Omega.{arith}
@@ -9,8 +9,7 @@ use lib.Dec.{eqb, leb}
 use lib.ListN.{length, drop}
 use borrow.Author.Tests.{eq-eqb, ne-eqb, eqb-true, eqb-false}
 use Rattle.ground.specs.Lists.{any}
-use Rattle.ground.proofs.Tests.{by-test}
-use Rattle.utf8.proofs.Leads.{both-left, both-right}
+use Rattle.ground.proofs.Tests.{by-test, both-left, both-right, both}
 use Rattle.lexicon.specs.Class.{classOf}
 use Rattle.lexicon.specs.Span.{inSymbol, symbolSpan}
 use Rattle.lexicon.specs.Symbol.{every, oneSymbol}
@@ -21,9 +20,6 @@ use Rattle.tables.specs.Rules.{nameLimit, nameRight, ownName}
 use Rattle.tables_text.specs.Line.{oneLine}
 use Rattle.tables_text.specs.Parse.{apart, space, lineFeed}
 use Rattle.tables_text.proofs.Cuts.{clear}
-
-pub both : {a b : Bool} → a ≡ true → b ≡ true → (a && b) ≡ true
-both p q = rw (p, q)
 
 pub clear-append : (byte : ℕ) (a b : List ℕ) → clear byte a ≡ true → clear byte b ≡ true → clear byte (a ++ b) ≡ true
 unfolding every

@@ -8,6 +8,7 @@ use native.Mathlib.Omega.{arith}
 use lib.Dec.{eqb}
 use lib.ListN.{length, take, drop, set, length-set, length-append, drop-of-length-le}
 use lib.Seq.{take-set-le, take-suc-set, drop-drop, append-snoc, length-take-le}
+use Rattle.ground.specs.Options.{over}
 use Rattle.ground.proofs.Tests.{by-test}
 use Rattle.ground.proofs.Lists.{at-place}
 use Rattle.lexicon.specs.Span.{spanBy}
@@ -15,7 +16,7 @@ use Rattle.tables.specs.Sort.{Sort, recordOf}
 use Rattle.tables_text.specs.declared.number.Number.{Number}
 use Rattle.tables_text.specs.declared.number.Number.the-variants as number
 use Rattle.tables_text.specs.declared.sort.RecordLine.the-variants as row
-use Rattle.tables_text.specs.Parse.{over, spanTo, space, numeral, grown, pieces, further, numerals, recordIn}
+use Rattle.tables_text.specs.Parse.{spanTo, space, numeral, grown, pieces, further, numerals, recordIn}
 use Rattle.tables_text.specs.Told.{numberTold, recordTold, FieldsPut}
 use Rattle.tables_text.proofs.Cuts.{end-le, word-long}
 use Rattle.tables_text.proofs.Numerals.{told-is, told-other}

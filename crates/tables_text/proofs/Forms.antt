@@ -8,13 +8,14 @@ use Prim.Native.Nat.{ℕ, _-_}
 use Prim.Native.String.{String}
 use lib.ListN.{length, take, drop}
 use Rattle.ground.specs.Bytes.{bytes}
+use Rattle.ground.specs.Options.{over}
 use Rattle.arena.specs.Text.{sameText}
 use Rattle.tables.specs.Sort.{bitVec, optionOf, setOf}
 use Rattle.tables_text.specs.declared.number.Number.{Number}
 use Rattle.tables_text.specs.declared.number.Number.the-variants.{Is, Other}
 use Rattle.tables_text.specs.declared.sort.SortLine.{SortLine}
 use Rattle.tables_text.specs.declared.sort.SortLine.the-variants as sort
-use Rattle.tables_text.specs.Parse.{over, begins, numeral, namedForm, numberedForm, form}
+use Rattle.tables_text.specs.Parse.{begins, numeral, namedForm, numberedForm, form}
 use Rattle.tables_text.specs.Told.{numberTold, plainTold, numberedTold, formTold}
 use Rattle.tables_text.proofs.Cuts.{to-end}
 use Rattle.tables_text.proofs.Numerals.{told-is, told-other}

@@ -12,6 +12,7 @@ use lib.Seq.{append-snoc, drop-append-add, take-append-seam, drop-append-seam, g
 use borrow.Author.Tests.{le-leb, eq-eqb}
 use Rattle.ground.specs.Bytes.{bytes}
 use Rattle.ground.specs.Lists.{joined, all, tabulate}
+use Rattle.ground.proofs.Tests.{both}
 use Rattle.decimals.specs.Decimal.{decimal}
 use Rattle.tables.specs.Sort as Sort
 use Rattle.tables.specs.Sort.{Sort, bool, string, ext, bitVec, optionOf, setOf, entityOf, recordOf, Variable, Function, Member, Tables}
@@ -19,7 +20,6 @@ use Rattle.tables.specs.Layout.{stride, count, word, part, nameAt, sortOf, tabl
 use Rattle.tables_text.specs.Line.{lines, written, sortLine, variableLine, functionLine, memberLine}
 use Rattle.tables_text.specs.Words.{rowWords, sortWords, fieldsOf, allFields, allSortWords, variableWords, functionWords, memberWords, tableWords, laid}
 use Rattle.tables_text.specs.Parse.{space, lineFeed}
-use Rattle.tables_text.proofs.Clears.{both}
 use Rattle.tables_text.proofs.SortWalks.{five}
 use Rattle.tables_text.proofs.Parses.{table-long, sorts-long}
 

@@ -9,7 +9,8 @@ use native.Mathlib.Omega.{arith}
 use lib.ListN.{length, take, drop, length-take}
 use borrow.Author.Tests.{le-leb, lt-leb}
 use Rattle.ground.specs.Lists.{all}
-use Rattle.ground.proofs.Tests.{by-test, by-order, one-result}
+use Rattle.ground.specs.Options.{over}
+use Rattle.ground.proofs.Tests.{by-test, by-order, one-result, both}
 use Rattle.lexicon.proofs.Spans.{every-take}
 use Rattle.refusals.specs.declared.Refusal.{Refusal}
 use Rattle.refusals.specs.declared.Refusal.the-variants.{InputTooLong, BadTable}
@@ -24,12 +25,12 @@ use Rattle.tables_text.specs.declared.parse.Parsed.{Parsed}
 use Rattle.tables_text.specs.declared.parse.Parsed.the-variants.{Rows, Other}
 use Rattle.tables_text.specs.Line.{lines, written, writable, oneLine, sortLine, variableLine, functionLine, memberLine}
 use Rattle.tables_text.specs.Words.{laid}
-use Rattle.tables_text.specs.Parse.{over, apart, spanTo, space, lineFeed, Cut, cutAt, numeral, Led, led, memberAfter, memberIn, sortIn, variableIn, functionIn, Walked, went, lineRow, walk, sortRows, variableRows, functionRows, memberRows, ended, begins, parse}
+use Rattle.tables_text.specs.Parse.{apart, spanTo, space, lineFeed, Cut, cutAt, numeral, Led, led, memberAfter, memberIn, sortIn, variableIn, functionIn, Walked, went, lineRow, walk, sortRows, variableRows, functionRows, memberRows, ended, begins, parse}
 use Rattle.tables_text.specs.Parsing.{Held, parsedTold, Parses}
 use Rattle.tables_text.specs.Read.{textLimit, Spells, Buffers, Left, refusing, fitted, Leaves, Reads}
 use Rattle.tables_text.specs.Reading.{judged, ofParsed, ofText, reading}
 use Rattle.tables_text.proofs.Cuts.{clear, cut-found, cut-none}
-use Rattle.tables_text.proofs.Clears.{both, clear-drop, clear-one-line}
+use Rattle.tables_text.proofs.Clears.{clear-drop, clear-one-line}
 use Rattle.tables_text.proofs.Spelled.{some-equal, over-some, test-some, sort-sound, variable-sound, function-sound, member-sound}
 use Rattle.tables_text.proofs.Parses.{walk-sound}
 use Rattle.tables_text.proofs.Back.{read-back}

@@ -11,13 +11,14 @@ use lib.ListN.{length, take, drop, length-drop, length-append}
 use lib.Seq.{drop-at, drop-drop, append-snoc}
 use borrow.Author.Tests.{not-true, not-false}
 use Rattle.ground.specs.Bytes.{bytes}
+use Rattle.ground.specs.Options.{over}
 use Rattle.tables_text.specs.declared.number.Number.{Number}
 use Rattle.tables_text.specs.declared.number.Number.the-variants as number
 use Rattle.tables_text.specs.declared.row.Before.the-variants as before
 use Rattle.tables_text.specs.declared.row.VariableLine.the-variants as variable
 use Rattle.tables_text.specs.declared.row.FunctionLine.the-variants as function
 use Rattle.tables_text.specs.declared.row.MemberLine.the-variants as member
-use Rattle.tables_text.specs.Parse.{over, begins, spanTo, Cut, cutAt, space, numeral, Led, led, variableAfter, variableIn, functionAfter, functionIn, memberAfter, memberIn}
+use Rattle.tables_text.specs.Parse.{begins, spanTo, Cut, cutAt, space, numeral, Led, led, variableAfter, variableIn, functionAfter, functionIn, memberAfter, memberIn}
 use Rattle.tables_text.specs.Told.{numberTold, beforeTold, variableTold, functionTold, memberTold}
 use Rattle.tables_text.proofs.Cuts.{begins-long, cut-split, word-long, place-none, place-some, to-end}
 use Rattle.tables_text.proofs.Numerals.{told-is, told-other}
@@ -28,9 +29,6 @@ keyed b key s e k = sym e ∙ not-false b k
 
 pub unkeyed : (b : Bool) (key s : List ℕ) → b ≡ begins key s → not b ≡ true → begins key s ≡ false
 unkeyed b key s e k = sym e ∙ not-true b k
-
-pub keyed-long : (b : Bool) (key s : List ℕ) → b ≡ begins key s → not b ≡ false → length key ≤ length s
-keyed-long b key s e k = begins-long key s (keyed b key s e k)
 
 -- a number up to a space
 module _ (s : List ℕ) (start end : ℕ) (le : start ≤ length s) (e : end ≡ start + spanTo space (drop start s)) where

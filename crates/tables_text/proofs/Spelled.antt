@@ -13,6 +13,7 @@ use lib.Seq.{drop-cons}
 use borrow.Author.Tests.{eqb-true, not-false}
 use Rattle.ground.specs.Bytes.{bytes}
 use Rattle.ground.specs.Lists.{joined}
+use Rattle.ground.specs.Options.{over}
 use Rattle.ground.proofs.Tests.{by-test, by-order}
 use Rattle.lexicon.proofs.Spans.{span-next}
 use Rattle.arena.specs.Text.{sameText}
@@ -21,7 +22,7 @@ use Rattle.decimals.specs.Decimal.{decimal}
 use Rattle.tables.specs.Sort as Sort
 use Rattle.tables.specs.Sort.{Sort, bool, string, ext, bitVec, optionOf, setOf, entityOf, recordOf, Variable, Function, Member}
 use Rattle.tables_text.specs.Line.{sortLine, variableLine, functionLine, memberLine}
-use Rattle.tables_text.specs.Parse.{over, begins, apart, spanTo, space, lineFeed, Cut, cutAt, numeral, Led, led, grown, pieces, further, numerals, recordIn, numbered, namedForm, numberedForm, form, filled, sortIn, variableAfter, variableIn, functionAfter, functionIn, memberAfter, memberIn, lineRow}
+use Rattle.tables_text.specs.Parse.{begins, apart, spanTo, space, lineFeed, Cut, cutAt, numeral, Led, led, grown, pieces, further, numerals, recordIn, numbered, namedForm, numberedForm, form, filled, sortIn, variableAfter, variableIn, functionAfter, functionIn, memberAfter, memberIn, lineRow}
 use Rattle.tables_text.specs.declared.sort.SortLine.the-variants as sort
 use Rattle.tables_text.specs.Told.{formTold}
 use Rattle.tables_text.proofs.Cuts.{begins-split, cut-found, cut-none, cut-split, cut-joins}

@@ -10,6 +10,7 @@ use lib.ListN.{length, take, drop, length-append, length-drop}
 use lib.Seq.{sets, length-sets, drop-at, drop-drop}
 use Rattle.ground.specs.Bytes.{bytes}
 use Rattle.ground.specs.Lists.{joined}
+use Rattle.ground.specs.Options.{over}
 use Rattle.ground.proofs.Lists.{take-sets}
 use Rattle.decimals.specs.Decimal.{decimal}
 use Rattle.tables.specs.Sort.{Variable, Function, Member}
@@ -22,7 +23,7 @@ use Rattle.tables_text.specs.declared.walk.Line.{Line}
 use Rattle.tables_text.specs.declared.walk.Line.the-variants.{Next, Stop}
 use Rattle.tables_text.specs.Line.{lines, memberLine}
 use Rattle.tables_text.specs.Words.{rowWords, variableWords, functionWords, memberWords, tableWords}
-use Rattle.tables_text.specs.Parse.{over, spanTo, lineFeed, Cut, memberIn, Walked, stopped, went, lineRow, walk}
+use Rattle.tables_text.specs.Parse.{spanTo, lineFeed, Cut, memberIn, Walked, stopped, went, lineRow, walk}
 use Rattle.tables_text.specs.Told.{variableTold, functionTold, memberTold, lineTold, lineHeld, Lined, WalkedTo}
 use Rattle.tables_text.proofs.Cuts.{word-long, place-none, place-some}
 use Rattle.tables_text.proofs.Spelled.{ended, line-sound, member-sound}

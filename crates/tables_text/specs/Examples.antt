@@ -1,14 +1,21 @@
--- Document 01, "The listing": its sample of the tables' text form, and the lines that it names besides.
+-- Document 01, "The listing" and "Numbers given back": its sample of the tables' text form, the lines that it names besides, numbers
+-- that no line has, and which of two short buffers is told.
 use mathlib.Core.Path.{_≡_, refl}
-use mathlib.Core.List.{List, [], _∷_}
+use mathlib.Core.List.{List, [], _∷_, map}
+use mathlib.Core.Option.{none, some}
 use Prim.Native.Nat.{ℕ}
 use Prim.Native.String.{String}
 use Rattle.ground.specs.Bytes.{bytes}
 use Rattle.ground.specs.Lists.{joined}
+use Rattle.refusals.specs.declared.Refusal.the-variants.{OutRoom}
 use Rattle.decimals.specs.Decimal.{decimal, lastDigits, digitCountWithin}
 use Rattle.tables.specs.Sort as Sort
 use Rattle.tables.specs.Sort.{Sort, bool, ext, bitVec, optionOf, setOf, entityOf, recordOf, Tables}
+use Rattle.tables.specs.Layout.{Lent}
+use Rattle.tables_text.specs.declared.read.TablesRead.the-variants.{Refused}
 use Rattle.tables_text.specs.Line.{lines, sortLine, memberLine, written}
+use Rattle.tables_text.specs.Parse.{digitsFrom, numeral}
+use Rattle.tables_text.specs.Read.{Buffers, Left, fitted}
 
 abbrev sample : Tables
 sample = record {
@@ -36,3 +43,17 @@ bare-record = refl
 bare-text : memberLine (record { name = bytes "a=b"; entity = 3; text = [] }) ≡ bytes "enum=a=b 3 \n"
 unfolding joined decimal lastDigits digitCountWithin
 bare-text = refl
+
+-- a leading zero, no digit, a sign; five digits; 0 and 1,023
+numbers : map numeral (bytes "08" ∷ bytes "00" ∷ [] ∷ bytes "+8" ∷ bytes "10000" ∷ bytes "0" ∷ bytes "1023" ∷ [])
+    ≡ none ∷ none ∷ none ∷ none ∷ none ∷ some 0 ∷ some 1023 ∷ []
+unfolding numeral digitsFrom
+numbers = refl
+
+-- a sort row and two fields in no room: the sorts' five words are told
+abbrev none-lent : Buffers
+none-lent = record { sorts = []; fields = []; variables = []; functions = []; members = [] }
+
+sorts-first : (fitted none-lent (record { sorts = 0 ∷ 1 ∷ 10 ∷ 0 ∷ 2 ∷ []; fields = 0 ∷ 0 ∷ []; variables = []; functions = []; members = []; names = [] })) .answer ≡ Refused (OutRoom 5)
+unfolding fitted
+sorts-first = refl

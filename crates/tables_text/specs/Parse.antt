@@ -8,16 +8,12 @@ use Prim.Native.String.{String}
 use lib.Dec.{eqb, leb, ltb}
 use lib.ListN.{length, take, drop}
 use Rattle.ground.specs.Bytes.{bytes}
+use Rattle.ground.specs.Options.{over}
 use Rattle.lexicon.specs.Span.{spanBy}
 use Rattle.arena.specs.Text.{sameText}
 use Rattle.tables.specs.Sort as Sort
 use Rattle.tables.specs.Sort.{Sort, bool, string, ext, bitVec, optionOf, setOf, entityOf, recordOf, Variable, Function, Member, Tables}
 use Rattle.tables.specs.Rules.{rowLimit}
-
--- what a rule makes of a thing, if it is there
-abbrev pub over : {A B : Type 0} → Option A → (A → Option B) → Option B
-over none rule = none
-over (some x) rule = rule x
 
 -- bytes start with a key
 unfoldable pub begins : List ℕ → List ℕ → Bool

@@ -4,7 +4,7 @@ use mathlib.Core.Path.{_≡_, refl, sym, ap, _∙_}
 use mathlib.Core.Bool.{true, true≢false}
 use mathlib.Core.List.{List, [], _∷_}
 use Prim.Native.Nat.{ℕ, zero, suc}
-use Rattle.utf8.proofs.Leads.{both-left, both-right}
+use Rattle.ground.proofs.Tests.{both-left, both-right}
 use Rattle.strings.specs.Points.{characterAt, pointsAfter, points}
 use Rattle.strings.specs.Text.{encodings, text, anySurrogate}
 use Rattle.theory.specs.Literal.{quote, Literal, empty, byte, doubled, unquoted}

@@ -6,7 +6,7 @@ use Prim.Native.Nat.{ℕ, _-_, _≤_, _<_}
 use native.Mathlib.Omega.{arith}
 use lib.Dec.{leb, ltb}
 use borrow.Author.Tests.{lt-ltb, le-ltb, leb-true}
-use Rattle.utf8.proofs.Leads.{both-left, both-right}
+use Rattle.ground.proofs.Tests.{both-left, both-right}
 use Rattle.words.specs.Radix.{worth}
 use Rattle.theory.specs.Literal.{within}
 use Rattle.theory.specs.Theory.{isHex, hexValue}

@@ -9,8 +9,7 @@ use native.Mathlib.Omega.{arith}
 use lib.Dec.{eqb}
 use lib.ListN.{length}
 use borrow.Author.Tests.{eqb-true, not-true}
-use Rattle.ground.proofs.Tests.{by-test}
-use Rattle.utf8.proofs.Leads.{both-left, both-right}
+use Rattle.ground.proofs.Tests.{by-test, both-left, both-right}
 use Rattle.theory.specs.Literal.{quote, Literal, empty, byte, doubled, unquoted}
 use Rattle.theory.specs.Theory.{Place, fits, grown, numberBy, spelledBy}
 use Rattle.theory.proofs.Forms.{taken, by-form, all}

@@ -8,9 +8,8 @@ use Prim.Native.Nat.{ℕ, zero, suc, _+_, _*_, _≤_}
 use native.Mathlib.Omega.{arith}
 use lib.Dec.{leb, eqb}
 use borrow.Author.Tests.{le-leb, lt-leb, ne-eqb, leb-true}
-use Rattle.ground.proofs.Tests.{by-order, and-false}
+use Rattle.ground.proofs.Tests.{by-order, and-false, both-left, both-right}
 use Rattle.utf8.specs.Encoding.{scalar}
-use Rattle.utf8.proofs.Leads.{both-left, both-right}
 use Rattle.utf8.proofs.Encodings.{Between, scalar-low, scalar-surrogate, scalar-high}
 use Rattle.strings.specs.Text.{anySurrogate}
 use Rattle.theory.specs.Literal.{within, printable, whiteSpace, Literal, empty, byte, doubled, unquoted}

@@ -18,6 +18,7 @@ use Rattle.strings.specs.Points.{points}
 use Rattle.strings.specs.Text.{text, anySurrogate}
 use Rattle.strings.proofs.Texts.{Bytes, text-le}
 use Rattle.words.specs.Extension.{extended}
+use Rattle.lexicon.specs.Class.{classOf}
 use Rattle.brackets.specs.Token.{Atom, bits, number, Token, opens, closes, atom, atomText}
 use Rattle.tokens.specs.declared.lexeme.Kind.{Kind}
 use Rattle.tokens.specs.declared.lexeme.Kind.the-variants as K
@@ -40,6 +41,15 @@ lex-cons b bs = refl
 pub lex-nil : lex [] ≡ ok []
 unfolding lexAfter
 lex-nil = refl
+
+-- brackets bring their tokens
+pub lex-opening : (s : List ℕ) → lex (0x28 ∷ s) ≡ more opens (lex s)
+unfolding lexAfter pieceAt lexemeAt classOf
+lex-opening s = refl
+
+pub lex-closing : (s : List ℕ) → lex (0x29 ∷ s) ≡ more closes (lex s)
+unfolding lexAfter pieceAt lexemeAt classOf
+lex-closing s = refl
 
 -- a lexeme that the code has found at a place
 module _ (s : List ℕ) (at : ℕ) (l : Lexeme) (less : at < length s) (is : l ≡ lexemeAt (drop at s)) where

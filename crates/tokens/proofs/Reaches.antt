@@ -9,12 +9,11 @@ use lib.Dec.{leb, ltb, eqb}
 use lib.ListN.{length, take, drop}
 use lib.Seq.{drop-drop}
 use borrow.Author.Tests.{eqb-true, eqb-false, ltb-true, leb-true, lt-ltb, eq-eqb}
-use Rattle.ground.proofs.Tests.{by-test}
+use Rattle.ground.proofs.Tests.{by-test, both-left, both-right}
 use Rattle.words.specs.declared.digits.Radix.{Radix}
 use Rattle.words.specs.declared.digits.Radix.the-variants.{Binary, Decimal, Hexadecimal}
 use Rattle.words.specs.Radix.{baseOf, worth, isDigit}
 use Rattle.words.proofs.Worths.{a-digit}
-use Rattle.utf8.proofs.Leads.{both-left, both-right}
 use Rattle.lexicon.specs.Class.{classOf, whiteSpace, blank, opening, closing, comment, quote, hash, digit, other}
 use Rattle.lexicon.specs.Span.{spanBy, inSymbol, inLine, symbolSpan, lineSpan}
 use Rattle.lexicon.proofs.Spans.{span-le}

@@ -10,9 +10,10 @@ use lib.Dec.{leb, ltb}
 use lib.ListN.{length, getD, take, drop, length-drop, take-append-drop}
 use lib.Seq.{drop-append-seam}
 use borrow.Author.Tests.{lt-ltb, le-leb, leb-true}
+use Rattle.ground.proofs.Tests.{both-left, both-right}
 use Rattle.utf8.specs.Rows.{Span, _to_, rows}
 use Rattle.utf8.specs.Octets.{Sequence, Concatenation, none, more, within, startsWith, width, octets, utf8}
-use Rattle.utf8.proofs.Leads.{both-left, both-right, row-tells}
+use Rattle.utf8.proofs.Leads.{row-tells}
 
 octets-skip : (k : ℕ) (s : List ℕ) → octets k s ≡ octets 0 (drop k s)
 unfolding octets

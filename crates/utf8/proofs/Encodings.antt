@@ -135,9 +135,6 @@ encoded-length-le n = encoded-length-by n 4 (omega arith) (omega arith) (omega a
 pub encoded-length-two : (n : ℕ) → n < 0x800 → length (bytesOf (encoded n)) ≤ 2
 encoded-length-two n u = encoded-length-by n 2 (omega arith) (omega arith) (omega arith) (omega arith)
 
-pub encoded-length-three : (n : ℕ) → n < 0x10000 → length (bytesOf (encoded n)) ≤ 3
-encoded-length-three n u = encoded-length-by n 3 (omega arith) (omega arith) (omega arith) (omega arith)
-
 -- each octet is from a to z
 abbrev pub Between : ℕ → ℕ → List ℕ → Type 0
 Between a z [] = Unit {0}
@@ -147,12 +144,6 @@ pub between-at : (a z : ℕ) (s : List ℕ) (k : ℕ) → Between a z s → k < 
 between-at a z [] k h l = absurd (omega arith)
 between-at a z (b ∷ bs) zero h l = (h .0, h .1)
 between-at a z (b ∷ bs) (suc k) h l = between-at a z bs k (h .2) (omega arith)
-
--- the octets are bytes, and none of a code point from 80 on is ASCII
-pub encoded-between : (n a : ℕ) → a ≤ n → a ≤ 0x80 → Between a 0xFF (bytesOf (encoded n))
-encoded-between n a u v =
-    by-size (λ e. Between a 0xFF (bytesOf e)) n (λ h. omega arith) (λ l h. omega arith) (λ l h s. omega arith)
-    (λ l s. let t = scalar-top n s in omega arith) (λ s. tt)
 
 pub some-bytes : (n : ℕ) → scalar n ≡ true → 0 < length (bytesOf (encoded n))
 some-bytes n t =

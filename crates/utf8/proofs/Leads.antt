@@ -8,6 +8,7 @@ use native.Mathlib.Omega.{arith}
 use lib.Dec.{leb, ltb}
 use lib.ListN.{length, getD}
 use borrow.Author.Tests.{ltb-true, le-leb, lt-leb}
+use Rattle.ground.proofs.Tests.{both-left, both-right}
 use Rattle.utf8.specs.Rows.{Span, _to_, rows}
 use Rattle.utf8.specs.Octets.{within, startsWith, width}
 
@@ -21,14 +22,6 @@ abbrev pub disjoint : List (List Span) → Bool
 disjoint [] = true
 disjoint ([] ∷ rs) = false
 disjoint ((first to last ∷ ps) ∷ rs) = apart first last rs && disjoint rs
-
-pub both-left : (a b : Bool) → (a && b) ≡ true → a ≡ true
-both-left true b h = refl
-both-left false b h = h
-
-pub both-right : (a b : Bool) → (a && b) ≡ true → b ≡ true
-both-right true b h = h
-both-right false b h = absurd (false≢true h)
 
 outside : (first last a z b : ℕ) → (ltb last a || ltb z first) ≡ true → a ≤ b → b ≤ z → within (first to last) b ≡ false
 outside first last a z b h l u = go (ltb last a) refl h

@@ -5,11 +5,12 @@ use mathlib.Core.Bool.{Bool, true, false, cond, _&&_}
 use mathlib.Core.List.{List, [], _∷_}
 use Prim.Native.Nat.{ℕ, suc, _+_, _-_, _≤_, _<_}
 use native.Mathlib.Omega.{arith}
-use native.Mathlib.Numerals.{add-one}
 use lib.ListN.{length, getD, drop, replicate, length-drop, drop-of-length-le}
-use lib.Seq.{drop-cons, drop-drop}
+use lib.Seq.{drop-drop}
 use lib.Dec.{leb}
 use borrow.Author.Tests.{le-leb, lt-leb}
+use Rattle.ground.proofs.Tests.{and-true}
+use Rattle.ground.proofs.Lists.{at-place}
 use Rattle.utf8.specs.Rows.{Span, _to_, tail, rows}
 use Rattle.utf8.specs.Octets.{within, startsWith, width, octets, utf8}
 use Rattle.utf8.proofs.Leads.{apart, no-lead, row-tells}
@@ -45,19 +46,16 @@ pub passed-end : (s : List ℕ) (i : ℕ) → length s ≤ i → Passed s i → 
 unfolding octets
 passed-end s i past h = ap (λ (l : List ℕ). octets 0 l) (sym (drop-of-length-le s past)) ∙ h .rest
 
-at-cons : (s : List ℕ) (i : ℕ) → i < length s → drop i s ≡ getD s i 0 ∷ drop (i + 1) s
-at-cons s i h = drop-cons s i 0 h ∙ ap (λ (k : ℕ). getD s i 0 ∷ drop k s) (sym (add-one i))
-
 -- the lead at i: of the row k, or of none
 module _ (s : List ℕ) (i : ℕ) (h : i < length s) where
   pub lead-row : (k first last : ℕ) (ps : List Span) (n : ℕ) → getD rows k [] ≡ first to last ∷ ps → first ≤ getD s i 0 → getD s i 0 ≤ last
       → n ≡ cond (startsWith ps (drop (i + 1) s)) (suc (length ps)) 0 → n ≡ width rows (drop i s)
   lead-row k first last ps n e l u is =
-      is ∙ sym (row-tells k first last (getD s i 0) ps (drop (i + 1) s) e l u) ∙ ap (λ (x : List ℕ). width rows x) (sym (at-cons s i h))
+      is ∙ sym (row-tells k first last (getD s i 0) ps (drop (i + 1) s) e l u) ∙ ap (λ (x : List ℕ). width rows x) (sym (at-place s i h))
 
   pub lead-none : (a z : ℕ) → apart a z rows ≡ true → a ≤ getD s i 0 → getD s i 0 ≤ z → 0 ≡ width rows (drop i s)
   lead-none a z e l u =
-      sym (no-lead rows a z (getD s i 0) (drop (i + 1) s) e l u) ∙ ap (λ (x : List ℕ). width rows x) (sym (at-cons s i h))
+      sym (no-lead rows a z (getD s i 0) (drop (i + 1) s) e l u) ∙ ap (λ (x : List ℕ). width rows x) (sym (at-place s i h))
 
 -- one octet of a span
 module _ (s : List ℕ) (j first last : ℕ) where
@@ -65,14 +63,10 @@ module _ (s : List ℕ) (j first last : ℕ) where
   octet-past h = rw (drop-of-length-le s h)
 
   pub octet-low : j < length s → getD s j 0 < first → false ≡ startsWith (first to last ∷ []) (drop j s)
-  octet-low h l = rw (at-cons s j h) (rw (lt-leb first (getD s j 0) l))
+  octet-low h l = rw (at-place s j h) (rw (lt-leb first (getD s j 0) l))
 
   pub octet-last : j < length s → first ≤ getD s j 0 → leb (getD s j 0) last ≡ startsWith (first to last ∷ []) (drop j s)
-  octet-last h l = rw (at-cons s j h) (rw (le-leb first (getD s j 0) l) (go (leb (getD s j 0) last)))
-    where
-      go : (t : Bool) → t ≡ (t && true)
-      go true = refl
-      go false = refl
+  octet-last h l = rw (at-place s j h) (rw (le-leb first (getD s j 0) l) (sym (and-true (leb (getD s j 0) last))))
 
 -- a row is its first octet and the rest
 split : (p : Span) (ps : List Span) (s : List ℕ) → startsWith (p ∷ ps) s ≡ (startsWith (p ∷ []) s && startsWith ps (drop 1 s))

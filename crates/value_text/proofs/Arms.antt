@@ -23,8 +23,8 @@ use Rattle.sorts.specs.Sort.{readSort}
 use Rattle.values.specs.Value.{Value, Values, vBool, vString, vExt, vBits, vNone, vSome, vSet, vEntity, vRecord, vNil, vCons, union as both}
 use Rattle.values.specs.HasSort.{FieldSorts, Loose}
 use Rattle.literals.specs.Literal.{Lit, unsigned, numbered, entityLit, fieldsOf, sameCount, madeRow, appLit, read}
+use Rattle.literals.proofs.Unions.{held-set}
 use Rattle.meaning.proofs.Results.{refuses, ok-same, went, passed, was-found}
-use Rattle.meaning.proofs.Insides.{set-held}
 use Rattle.meaning.proofs.Readings.{Reading, r-bits, r-string, r-true, r-false, r-member, reading}
 use Rattle.value_text.specs.Value.{Listed, l-nil, l-cons}
 
@@ -130,8 +130,8 @@ module _ (T : Tables) (a : ℕ) (e : Option ℕ) (k : Lit) where
         ws = x .got;
         left-was = f .first;
         right-was = z .first;
-        left-is = set-held (f .got .value) (y .got) (was-found SetUnionNonLiterals _ _ (y .first));
-        right-is = set-held (z .got .value) (x .got) (was-found SetUnionNonLiterals _ _ (x .first));
+        left-is = held-set (f .got .value) (y .got) (was-found SetUnionNonLiterals _ _ (y .first));
+        right-is = held-set (z .got .value) (x .got) (was-found SetUnionNonLiterals _ _ (x .first));
         is = ap (λ (l : Lit). l .value) (ok-same (x .next));
       }
 

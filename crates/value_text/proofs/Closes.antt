@@ -9,8 +9,7 @@ use lib.ListN.{length, take, set, replicate, length-append, length-set}
 use lib.Seq.{take-at, set-at}
 use Rattle.ground.specs.Bytes.{bytes}
 use Rattle.ground.specs.Lists.{all, joined}
-use Rattle.ground.proofs.Tests.{by-test}
-use Rattle.utf8.proofs.Leads.{both-left, both-right}
+use Rattle.ground.proofs.Tests.{by-test, both-left, both-right}
 use Rattle.moves.specs.Replace.{replacement, replaced}
 use Rattle.moves.proofs.Replaces.{replaced-append, replaced-none}
 use Rattle.order.specs.Order.{before, insert, arranged}

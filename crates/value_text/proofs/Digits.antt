@@ -1,16 +1,16 @@
 -- Hex digits: of a byte, of a pair of words, and put into a buffer, the last one first.
 -- Assumes nothing.
 use mathlib.Core.Path.{_≡_, refl, sym, ap, _∙_, subst}
-use mathlib.Core.List.{List, [], _∷_, _++_, append-nil}
-use Prim.Native.Nat.{ℕ, suc, _+_, _*_, _-_, _/_, _%_, _^_, _<_, _≤_}
+use mathlib.Core.List.{List, [], _∷_, _++_}
+use Prim.Native.Nat.{ℕ, _+_, _*_, _-_, _/_, _%_, _^_, _<_, _≤_}
 use native.Mathlib.Nat.{mod-eq-of-lt, lt-of-lt-of-le, one-mul, add-comm}
 use native.Mathlib.Numerals.{add-one}
 use native.Mathlib.Omega.{arith}
-use lib.ListN.{length, getD, take, drop, set, length-set, take-append-drop}
+use lib.ListN.{length, take, drop, set}
 use lib.Pow.{pow-pos, pow-mono, shl-exact, mod-pow-add, mod-mod-pow}
-use lib.Seq.{take-suc, set-at, length-take-le, append-snoc}
 use borrow.Author.Tests.{lt-ltb, le-ltb}
 use Rattle.words.proofs.Numbers.{value-fits}
+use Rattle.decimals.proofs.Puts.{Putting, putting-step, putting-end}
 use Rattle.values.specs.Text.{hexDigit, hex}
 
 pub digit-small : (d : ℕ) → d < 10 → 48 + d ≡ hexDigit d
@@ -65,59 +65,16 @@ hex-more : (k n : ℕ) → hex (k + 1) n ≡ hex k (n / 16) ++ (hexDigit (n % 16
 unfolding hex
 hex-more k n = rw (add-one k)
 
--- ds are the digits that stand already, from at on
-pub record Putting (number start end : ℕ) (entry out : List ℕ) (rest at : ℕ) : Type 0 where
-  pub ds : List ℕ
-  pub low : start ≤ at
-  pub high : at ≤ end
-  pub long : length out ≡ length entry
-  pub holds : out ≡ take at entry ++ (ds ++ drop end entry)
-  pub digits : hex (at - start) rest ++ ds ≡ hex (end - start) number
-
-pub putting-start : (number start end : ℕ) (entry : List ℕ) → start ≤ end → Putting number start end entry entry number end
-putting-start number start end entry h = record {
-  ds = [];
-  low = h;
-  high = omega arith;
-  long = refl;
-  holds = sym (take-append-drop end entry);
-  digits = append-nil (hex (end - start) number);
-}
-
-module _ (number start end : ℕ) (entry out : List ℕ) (rest at : ℕ) (so : Putting number start end entry out rest at) (fits : end ≤ length entry) (more : start < at) where
-  pub put-within : at - 1 < length out
-  put-within = omega (arith, so .long, so .high)
-
-  front : take at entry ≡ take (at - 1) entry ++ (getD entry (at - 1) 0 ∷ [])
-  front =
-      let e : at ≡ suc (at - 1) = omega arith in
-      let l : at - 1 < length entry = omega (arith, so .high) in
-      ap (λ (k : ℕ). take k entry) e ∙ take-suc entry (at - 1) 0 l
-
-  pub putting-step : (d next : ℕ) → d ≡ hexDigit (rest % 16) → next ≡ rest / 16 → Putting number start end entry (set out (at - 1) d) next (at - 1)
-  putting-step d next g n = record {
-    ds = d ∷ so .ds;
-    low = omega arith;
-    high = omega (arith, so .high);
-    long = length-set out (at - 1) d ∙ so .long;
-    holds =
-        ap (λ (l : List ℕ). set l (at - 1) d)
-        (so .holds ∙ ap (λ (l : List ℕ). l ++ (so .ds ++ drop end entry)) front ∙ append-snoc (take (at - 1) entry) (getD entry (at - 1) 0) (so .ds ++ drop end entry))
-        ∙ set-at (take (at - 1) entry) (getD entry (at - 1) 0) (so .ds ++ drop end entry) d (at - 1) (length-take-le (at - 1) entry (omega (arith, so .high)));
-    digits =
-        let e : at - start ≡ at - 1 - start + 1 = omega arith in
-        sym (append-snoc (hex (at - 1 - start) next) d (so .ds))
-        ∙ ap (λ (m : ℕ). hex (at - 1 - start) m ++ (d ∷ []) ++ so .ds) n
-        ∙ ap (λ (x : ℕ). hex (at - 1 - start) (rest / 16) ++ (x ∷ []) ++ so .ds) g
-        ∙ ap (λ (l : List ℕ). l ++ so .ds) (sym (ap (λ (k : ℕ). hex k rest) e ∙ hex-more (at - 1 - start) rest))
-        ∙ so .digits;
-  }
-
-pub putting-end : (number start end : ℕ) (entry out : List ℕ) (rest at : ℕ) → Putting number start end entry out rest at → at ≤ start
-    → out ≡ take start entry ++ (hex (end - start) number ++ drop end entry)
+hex-none : (n : ℕ) → hex 0 n ≡ []
 unfolding hex
-putting-end number start end entry out rest at so h =
-    let e : at ≡ start = omega (arith, so .low) in
-    let z : at - start ≡ 0 = omega (arith, so .low) in
-    let d : so .ds ≡ hex (end - start) number = sym (ap (λ (k : ℕ). hex k rest ++ so .ds) z) ∙ so .digits in
-    so .holds ∙ ap (λ (k : ℕ). take k entry ++ (so .ds ++ drop end entry)) e ∙ ap (λ (l : List ℕ). take start entry ++ (l ++ drop end entry)) d
+hex-none n = refl
+
+-- put into a buffer
+module _ (number start end : ℕ) (entry out : List ℕ) (rest at : ℕ) (so : Putting hex number start end entry out rest at) where
+  pub hex-step : end ≤ length entry → start < at → (d next : ℕ) → d ≡ hexDigit (rest % 16) → next ≡ rest / 16 → Putting hex number start end entry (set out (at - 1) d) next (at - 1)
+  hex-step fits more d next g n =
+      putting-step hex number start end entry out rest at so fits more d next
+      (λ k. hex-more k rest ∙ sym (ap (λ (m : ℕ). hex k m ++ (d ∷ [])) n ∙ ap (λ (x : ℕ). hex k (rest / 16) ++ (x ∷ [])) g))
+
+  pub hex-end : at ≤ start → out ≡ take start entry ++ (hex (end - start) number ++ drop end entry)
+  hex-end h = putting-end hex number start end entry out rest at so (hex-none rest) h

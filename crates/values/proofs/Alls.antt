@@ -1,15 +1,12 @@
 -- A test that every element passes, of lists put together.
 -- Assumes nothing.
 use mathlib.Core.Path.{_≡_, refl}
-use mathlib.Core.Bool.{Bool, true, _&&_}
+use mathlib.Core.Bool.{Bool, true}
 use mathlib.Core.List.{List, [], _∷_, _++_}
 use Prim.Native.Nat.{ℕ}
-use Rattle.utf8.proofs.Leads.{both-left, both-right}
 use Rattle.ground.specs.Lists.{all, joined}
+use Rattle.ground.proofs.Tests.{both-left, both-right}
 use Rattle.order.proofs.Everies.{every-map, every-append, all-every, every-all}
-
-pub both : {a b : Bool} → a ≡ true → b ≡ true → (a && b) ≡ true
-both p q = rw (p, q)
 
 module _ {A : Type 0} (test : A → Bool) where
   pub all-append : (xs ys : List A) → all test xs ≡ true → all test ys ≡ true → all test (xs ++ ys) ≡ true

@@ -12,15 +12,14 @@ use lib.IntN.{ℤ, pos, negsuc, negℤ}
 use lib.Signed.{_≤ℤ_, _<ℤ_}
 use borrow.Author.Tests.{ltb-true, ltb-false, le-leb}
 use Rattle.ground.specs.Lists.{all}
-use Rattle.ground.proofs.Tests.{by-test}
-use Rattle.utf8.proofs.Leads.{both-left, both-right}
+use Rattle.ground.proofs.Tests.{by-test, both-left, both-right, both}
 use Rattle.words.specs.Radix.{within}
 use Rattle.words.specs.Run.{number}
 use Rattle.decimals.specs.Decimal.{lastDigits, digitCount, decimal, signedDecimal}
 use Rattle.decimals.proofs.Values.{decimal-number}
 use Rattle.values.specs.Text.{hexDigit, hex, hexText, hexWidth}
 use Rattle.values.specs.HasSort.{octets}
-use Rattle.values.proofs.Alls.{both, all-append, all-by}
+use Rattle.values.proofs.Alls.{all-append, all-by}
 
 -- `0` to `9` and `a` to `f`
 abbrev pub isHexDigit : ℕ → Bool

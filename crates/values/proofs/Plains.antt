@@ -9,8 +9,7 @@ use lib.Dec.{eqb, leb}
 use borrow.Author.Tests.{eqb-true, ne-eqb, leb-true}
 use Rattle.ground.specs.Bytes.{bytes}
 use Rattle.ground.specs.Lists.{all, joined}
-use Rattle.ground.proofs.Tests.{by-test}
-use Rattle.utf8.proofs.Leads.{both-left, both-right}
+use Rattle.ground.proofs.Tests.{by-test, both-left, both-right, both}
 use Rattle.words.specs.Radix.{within}
 use Rattle.decimals.specs.Decimal.{decimal, signedDecimal}
 use Rattle.runs.specs.Run.{end, stop, plain, key}
@@ -18,7 +17,7 @@ use Rattle.tables.specs.Sort.{decimal as isDecimal, datetime, duration, Tables}
 use Rattle.values.specs.Value.{Value, Values, vBool, vString, vExt, vBits, vNone, vSome, vSet, vEntity, vRecord, vNil, vCons}
 use Rattle.values.specs.Text.{text, texts, hex, hexText, hexWidth}
 use Rattle.values.specs.HasSort.{HasSort, HaveSort, FieldSorts}
-use Rattle.values.proofs.Alls.{both, all-append, all-by, all-joined}
+use Rattle.values.proofs.Alls.{all-append, all-by, all-joined}
 use Rattle.values.proofs.Digits.{inside, isHexDigit, inRun, run-of, hexText-digits, hex-digits, decimal-digits, signed-run}
 
 abbrev pub printable : ℕ → Bool

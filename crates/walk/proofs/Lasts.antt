@@ -13,16 +13,9 @@ use borrow.Author.Tests.{eqb-true, eqb-false}
 use Rattle.ground.proofs.Tests.{by-test}
 use Rattle.tables.specs.Layout.{Lent}
 use Rattle.model.specs.Model.{Definition, orElse}
+use Rattle.model.proofs.Choices.{or-none, or-assoc}
 use Rattle.walk.specs.Noted.{slot}
 use Rattle.walk.specs.Last.{slots, lastIn, kept, Defined, Holds, Kept}
-
-or-none : {A : Type 0} (a : Option A) → orElse a none ≡ a
-or-none none = refl
-or-none (some a) = refl
-
-or-assoc : {A : Type 0} (a b c : Option A) → orElse (orElse a b) c ≡ orElse a (orElse b c)
-or-assoc none b c = refl
-or-assoc (some a) b c = refl
 
 last-append : (k : ℕ) (ds es : List Definition) → lastIn k (ds ++ es) ≡ orElse (lastIn k es) (lastIn k ds)
 unfolding lastIn

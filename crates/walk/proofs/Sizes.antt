@@ -10,7 +10,7 @@ use lib.ListN.{length, length-append}
 use Rattle.ground.specs.Bytes.{bytes}
 use Rattle.ground.specs.Lists.{at}
 use Rattle.refusals.specs.declared.Refusal.the-variants.{UnexpectedModel, UnmatchedType, UnexpectedForm}
-use Rattle.arena.specs.Tree.{Tree, Trees, symbol, app, nil, cons, nodes, nodesOf, text as treeText, texts as treeTexts, mostNodes, mostText}
+use Rattle.arena.specs.Tree.{Tree, Trees, symbol, app, nil, cons, nodes, text as treeText, mostNodes, mostText}
 use Rattle.arena.proofs.Layouts.{nodes-some}
 use Rattle.tables.specs.Find.{variableRow, functionRow}
 use Rattle.tables.specs.Rules.{lawful}
@@ -24,66 +24,54 @@ use Rattle.values.proofs.Lengths.{length-true, length-false}
 use Rattle.literals.specs.Literal.{Lit, read}
 use Rattle.meaning.proofs.Finds.{at-within}
 use Rattle.meaning.proofs.Results.{refuses, ok-same, went, passed, was-found}
-use Rattle.meaning.proofs.Sizes.{read-short}
+use Rattle.meaning.proofs.Sizes.{roomBy, roomsBy, rooms-cons, read-short}
 use Rattle.commands.specs.Command.{Command, Chain, default, arm, chain, tests, key, command}
 use Rattle.commands.proofs.Shapes.{define, CommandView, c-variable, c-function, c-misshapen, command-view, TestView, t-left, t-right, key-view, tests-view, ite, chain-by}
 use Rattle.model.specs.Model.{Arm, armOf, Table, push, Definition, readChain, readTests, bodyBy, readBody, variableValue, functionTable, onRow, readCommand}
 use Rattle.model.specs.Listing.{line, armLines}
+use Rattle.model.proofs.Lengths.{length-line}
 use Rattle.definitions.specs.Measure.{valueSize, tableSize}
 use Rattle.walk.specs.Noted.{slot, size}
 use Rattle.walk.specs.Last.{slots}
 
 abbrev room : Tree → ℕ
-room t = 131300 * nodes t + 2 * length (treeText t)
+room t = roomBy 131300 t
 
 abbrev rooms : Trees → ℕ
-rooms us = 131300 * nodesOf us + 2 * length (treeTexts us)
-
-room-cons : (u : Tree) (us : Trees) → rooms (cons u us) ≡ room u + rooms us
-room-cons u us = let h = length-append (treeText u) (treeTexts us) in omega arith
+rooms us = roomsBy 131300 us
 
 -- an application has the room of its parts
 key-room : (x : List ℕ) (test k : Tree) → TestView x test k → room k + 131300 ≤ room test
 key-room x _ k t-left =
-    let p = room-cons (symbol (bytes "=")) (cons (symbol x) (cons k nil)) in
-    let q = room-cons (symbol x) (cons k nil) in
-    let r = room-cons k nil in
+    let p = rooms-cons 131300 (symbol (bytes "=")) (cons (symbol x) (cons k nil)) in
+    let q = rooms-cons 131300 (symbol x) (cons k nil) in
+    let r = rooms-cons 131300 k nil in
     omega arith
 key-room x _ k t-right =
-    let p = room-cons (symbol (bytes "=")) (cons k (cons (symbol x) nil)) in
-    let q = room-cons k (cons (symbol x) nil) in
-    let r = room-cons (symbol x) nil in
+    let p = rooms-cons 131300 (symbol (bytes "=")) (cons k (cons (symbol x) nil)) in
+    let q = rooms-cons 131300 k (cons (symbol x) nil) in
+    let r = rooms-cons 131300 (symbol x) nil in
     omega arith
 
 ite-room : (test value rest : Tree) → room test + room value + room rest ≤ room (ite test value rest)
 ite-room test value rest =
-    let p = room-cons (symbol (bytes "ite")) (cons test (cons value (cons rest nil))) in
-    let q = room-cons test (cons value (cons rest nil)) in
-    let r = room-cons value (cons rest nil) in
-    let s = room-cons rest nil in
+    let p = rooms-cons 131300 (symbol (bytes "ite")) (cons test (cons value (cons rest nil))) in
+    let q = rooms-cons 131300 test (cons value (cons rest nil)) in
+    let r = rooms-cons 131300 value (cons rest nil) in
+    let s = rooms-cons 131300 rest nil in
     omega arith
 
 or-room : (us : Trees) → 131300 + rooms us ≤ room (app (cons (symbol (bytes "or")) us))
-or-room us = let p = room-cons (symbol (bytes "or")) us in omega arith
+or-room us = let p = rooms-cons 131300 (symbol (bytes "or")) us in omega arith
 
 define-room : (name : List ℕ) (us : Trees) (sort body : Tree) → room body ≤ room (define name us sort body)
 define-room name us sort body =
-    let p = room-cons (symbol (bytes "define-fun")) (cons (symbol name) (cons (app us) (cons sort (cons body nil)))) in
-    let q = room-cons (symbol name) (cons (app us) (cons sort (cons body nil))) in
-    let r = room-cons (app us) (cons sort (cons body nil)) in
-    let s = room-cons sort (cons body nil) in
-    let t = room-cons body nil in
+    let p = rooms-cons 131300 (symbol (bytes "define-fun")) (cons (symbol name) (cons (app us) (cons sort (cons body nil)))) in
+    let q = rooms-cons 131300 (symbol name) (cons (app us) (cons sort (cons body nil))) in
+    let r = rooms-cons 131300 (app us) (cons sort (cons body nil)) in
+    let s = rooms-cons 131300 sort (cons body nil) in
+    let t = rooms-cons 131300 body nil in
     omega arith
-
--- a line is six bytes and its text
-when-line : (s : List ℕ) → length (line "when" s) ≡ length s + 6
-when-line s = omega (arith, length-append s (bytes "\n"))
-
-then-line : (s : List ℕ) → length (line "then" s) ≡ length s + 6
-then-line s = omega (arith, length-append s (bytes "\n"))
-
-else-line : (s : List ℕ) → length (line "else" s) ≡ length s + 6
-else-line s = omega (arith, length-append s (bytes "\n"))
 
 push-size : (a : Arm) (t : Table) → tableSize (push a t) ≡ length (text (a .«when»)) + length (text (a .«then»)) + 12 + tableSize t
 push-size a t =
@@ -96,8 +84,8 @@ push-size a t =
       length-append w (h ++ armLines (t .arms)),
       length-append h (armLines (t .arms)),
       length-append (armLines (t .arms)) e,
-      when-line (text (a .«when»)),
-      then-line (text (a .«then»)),
+      length-line "when" (text (a .«when»)),
+      length-line "then" (text (a .«then»)),
     )
 
 module _ (T : Tables) (rules : lawful T ≡ true) where
@@ -116,7 +104,7 @@ module _ (T : Tables) (rules : lawful T ≡ true) where
     end-short t table e =
         let w = went _ _ table e in
         let p = passed _ UnmatchedType _ table (w .next) in
-        subst (λ (u : Table). tableSize u ≤ room t) (ok-same (p .1)) (omega (arith, literal-short (some result) t (w .got) (w .first), else-line (text (w .got .value))))
+        subst (λ (u : Table). tableSize u ≤ room t) (ok-same (p .1)) (omega (arith, literal-short (some result) t (w .got) (w .first), length-line "else" (text (w .got .value))))
 
     arm-short : (test value rest : Tree) → ChainShort rest (chain rest) → ChainShort (ite test value rest) (arm test value (chain rest))
     unfolding readChain
@@ -139,7 +127,7 @@ module _ (T : Tables) (rules : lawful T ≡ true) where
 
     tests-short : (us : Trees) (t : Table) → readTests T x argument result us ≡ ok t → tableSize t ≤ 11 + rooms us
     unfolding readTests
-    tests-short nil t e = subst (λ (u : Table). tableSize u ≤ 11) (ok-same e) (omega (arith, else-line (text (vBool false)), length-false))
+    tests-short nil t e = subst (λ (u : Table). tableSize u ≤ 11) (ok-same e) (omega (arith, length-line "else" (text (vBool false)), length-false))
     tests-short (cons test us) t e =
         let k = went _ _ t e in
         let m = went _ _ t (k .next) in
@@ -152,7 +140,7 @@ module _ (T : Tables) (rules : lawful T ≡ true) where
           key-short test (k .got) (m .got) (was-found UnexpectedForm (key x test) (k .got) (k .first)) (m .first),
           push-size (armOf (m .got .value) (vBool true)) (z .got),
           length-true,
-          room-cons test us,
+          rooms-cons 131300 test us,
         ))
 
     body-short : (body : Tree) (t : Table) → readBody T x argument result body ≡ ok t → tableSize t ≤ room body

@@ -1,6 +1,7 @@
 use Prim.Native.Nat.{_-_}
 use native.Mathlib.Omega.{arith}
-use Rattle.decimals.proofs.Puts.{Putting, putting-start, put-within, putting-step, putting-end}
+use Rattle.decimals.specs.Decimal.{lastDigits}
+use Rattle.decimals.proofs.Puts.{Putting, putting-start, put-within, digit-step, digits-end}
 use borrow.Author.Needs.{needs}
 use Rattle.decimals.proofs.put_digits.Statement.{statement}
 use Rattle.decimals.proofs.put_digits.Tie as tie
@@ -8,14 +9,14 @@ use Rattle.decimals.proofs.put_digits.Reads as reads
 use Rattle.decimals.proofs.put_digits.Lts as lts
 
 abbrev Inv-loop : tie.InvT-loop
-Inv-loop number out₀ start end rest₀ at₀ out rest at = Putting number start end out₀ out rest at
+Inv-loop number out₀ start end rest₀ at₀ out rest at = Putting lastDigits number start end out₀ out rest at
 
 abbrev μ-loop : tie.MeasureT-loop
 μ-loop number out₀ start end rest₀ at₀ out rest at = at - start
 
 -- src/lib.rt:44:5
 loop-holds : tie.Need-loop-holds Inv-loop μ-loop
-loop-holds c = putting-start _ _ _ _ (c .pre .0)
+loop-holds c = putting-start lastDigits _ _ _ _ (c .pre .0)
 
 -- src/lib.rt:45:9
 sub-at : tie.Need-sub-at Inv-loop μ-loop
@@ -31,7 +32,7 @@ cast-out c = search needs
 
 -- src/lib.rt:46:9
 slice-write-out : tie.Need-slice-write-out Inv-loop μ-loop
-slice-write-out c = put-within _ _ _ _ _ _ _ (c .before .loop .inv) (c .before .before .pre .1) (c .loop-test .taken)
+slice-write-out c = put-within lastDigits _ _ _ _ _ _ _ (c .before .loop .inv) (c .before .before .pre .1) (c .loop-test .taken)
 
 -- src/lib.rt:44:5
 loop-less : tie.Need-loop-less Inv-loop μ-loop
@@ -39,7 +40,7 @@ loop-less c = search needs
 
 -- src/lib.rt:44:5
 loop-again : tie.Need-loop-again Inv-loop μ-loop
-loop-again c = putting-step _ _ _ _ _ _ _ (c .before .loop .inv) (c .before .before .pre .1) (c .loop-test .taken)
+loop-again c = digit-step _ _ _ _ _ _ _ (c .before .loop .inv) (c .before .before .pre .1) (c .loop-test .taken)
 
 -- src/lib.rt:38:1
 same-length : tie.Need-same-length Inv-loop μ-loop
@@ -47,7 +48,7 @@ same-length c = c .before .loop .inv .long
 
 -- src/lib.rt:38:1
 returns : tie.Need-returns Inv-loop μ-loop
-returns c = putting-end _ _ _ _ _ _ _ (c .before .loop .inv) (c .loop-test .left)
+returns c = digits-end _ _ _ _ _ _ _ (c .before .loop .inv) (c .loop-test .left)
 
 pub put-digits-spec : {M : Type 1} → statement M
 put-digits-spec =

@@ -1,7 +1,9 @@
 use Rattle.words.specs.Pair.{value}
 use Prim.Native.Nat.{_-_}
 use native.Mathlib.Omega.{arith}
-use Rattle.value_text.proofs.Digits.{Putting, putting-start, put-within, putting-step, putting-end}
+use Rattle.decimals.proofs.Puts.{Putting, putting-start, put-within}
+use Rattle.values.specs.Text.{hex}
+use Rattle.value_text.proofs.Digits.{hex-step, hex-end}
 use borrow.Author.Needs.{needs}
 use Rattle.value_text.proofs.hex.put_digits.Statement.{statement}
 use Rattle.value_text.proofs.hex.put_digits.Tie as tie
@@ -11,14 +13,14 @@ use Rattle.value_text.proofs.hex.last_digit.Reads as last-digit-reads
 use Rattle.value_text.proofs.hex.shortened.Reads as shortened-reads
 
 abbrev Inv-loop : tie.InvT-loop
-Inv-loop out₀ start end rest₀ at₀ out rest at = Putting (value rest₀) start end out₀ out (value rest) at
+Inv-loop out₀ start end rest₀ at₀ out rest at = Putting hex (value rest₀) start end out₀ out (value rest) at
 
 abbrev μ-loop : tie.MeasureT-loop
 μ-loop out₀ start end rest₀ at₀ out rest at = at - start
 
 -- src/hex.rt:81:5
 loop-holds : tie.Need-loop-holds Inv-loop μ-loop
-loop-holds c = putting-start _ _ _ _ (c .before .pre .0)
+loop-holds c = putting-start hex _ _ _ _ (c .before .pre .0)
 
 -- src/hex.rt:82:9
 sub-at : tie.Need-sub-at Inv-loop μ-loop
@@ -30,7 +32,7 @@ last-digit-requires c κs = search needs
 
 -- src/hex.rt:83:9
 slice-write-out : tie.Need-slice-write-out Inv-loop μ-loop
-slice-write-out c = put-within _ _ _ _ _ _ _ (c .before .before .loop .inv) (c .before .before .before .before .pre .1) (c .before .loop-test .taken)
+slice-write-out c = put-within hex _ _ _ _ _ _ _ (c .before .before .loop .inv) (c .before .before .before .before .pre .1) (c .before .loop-test .taken)
 
 -- src/hex.rt:84:9
 shortened-requires : tie.Need-shortened-requires Inv-loop μ-loop
@@ -42,7 +44,7 @@ loop-less c = search needs
 
 -- src/hex.rt:81:5
 loop-again : tie.Need-loop-again Inv-loop μ-loop
-loop-again c = putting-step _ _ _ _ _ _ _ (c .before .before .before .loop .inv) (c .before .before .before .before .before .pre .1) (c .before .before .loop-test .taken) _ _ (c .before .last-digit .ensures) (c .shortened .ensures)
+loop-again c = hex-step _ _ _ _ _ _ _ (c .before .before .before .loop .inv) (c .before .before .before .before .before .pre .1) (c .before .before .loop-test .taken) _ _ (c .before .last-digit .ensures) (c .shortened .ensures)
 
 -- src/hex.rt:75:1
 same-length : tie.Need-same-length Inv-loop μ-loop
@@ -50,7 +52,7 @@ same-length c = c .before .loop .inv .long
 
 -- src/hex.rt:75:1
 returns : tie.Need-returns Inv-loop μ-loop
-returns c = putting-end _ _ _ _ _ _ _ (c .before .loop .inv) (c .loop-test .left)
+returns c = hex-end _ _ _ _ _ _ _ (c .before .loop .inv) (c .loop-test .left)
 
 pub put-digits-spec : {M : Type 1} → statement M
 put-digits-spec =
