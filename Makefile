@@ -1,5 +1,5 @@
 # What people type. Each target says what it needs.
-.PHONY: test list library example bindings oracle vectors confirm compare bench
+.PHONY: test list library example bindings stack oracle vectors confirm compare bench
 
 # Proves every crate, tries every must-fail edit, runs every program: the gate. Needs the Rattle toolchain.
 test:
@@ -36,6 +36,12 @@ target/example/%: examples/c/%.c library
 # Tests the Rust binding over the library. Needs the toolchain and cargo.
 bindings: library
 	cd bindings/rust && STAZZUMPI_LIB_DIR="$(abspath target/staticlib)" cargo test --offline --target-dir "$(abspath target/bindings)"
+
+# How much of the stack the listing takes, on the models that docs/DECISIONS.md names. Needs the toolchain, a C compiler and Python.
+stack: library
+	@mkdir -p target/stack
+	$(CC) -std=c99 -D_DEFAULT_SOURCE $(CFLAGS) -Wall -Wextra -Werror -Iinclude -Iexamples/c tools/stack.c target/staticlib/libstazzumpi.a -lpthread -o target/stack/stack
+	python3 tools/stack.py target/stack/stack
 
 # Builds the Rust from docs/src, to be the judge. Needs what oracle/README.md installs.
 oracle:

@@ -24,6 +24,8 @@ extern "C" {
         told: &mut [u64],
     ) -> u64;
     #[allow(improper_ctypes)]
+    fn stazzumpi_find_variable(variables: &[u64], names: &[u8], name: &[u8], told: &mut [u64]) -> u64;
+    #[allow(improper_ctypes)]
     fn stazzumpi_list_model(
         sorts: &[u64],
         fields: &[u64],
@@ -87,6 +89,10 @@ pub fn read_tables(text: &[u8], lists: [&mut [u64]; 5], told: &mut [u64]) -> u64
 }
 
 /// The same five lists, and an arena.
+pub fn find_variable(variables: &[u64], names: &[u8], name: &[u8], told: &mut [u64]) -> u64 {
+    unsafe { stazzumpi_find_variable(variables, names, name, told) }
+}
+
 pub fn list_model(lists: [&[u64]; 5], names: &[u8], nodes: &[u64], text: &[u8], out: &mut [u8], told: &mut [u64]) -> u64 {
     let [sorts, fields, variables, functions, members] = lists;
     unsafe { stazzumpi_list_model(sorts, fields, variables, functions, members, names, nodes, text, out, told) }

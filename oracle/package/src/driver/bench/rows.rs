@@ -3,23 +3,6 @@
 
 use crate::driver::{ours, Fault};
 
-extern "C" {
-    // A slice is passed as two words, its address and its length.
-    #[allow(improper_ctypes)]
-    fn stazzumpi_list_model(
-        sorts: &[u64],
-        fields: &[u64],
-        variables: &[u64],
-        functions: &[u64],
-        members: &[u64],
-        names: &[u8],
-        nodes: &[u64],
-        text: &[u8],
-        out: &mut [u8],
-        told: &mut [u64],
-    ) -> u64;
-}
-
 const KINDS: [&str; 10] =
     ["bool", "string", "decimal", "datetime", "duration", "bitvec", "option", "set", "entity", "record"];
 
@@ -88,20 +71,7 @@ impl Rows {
 
     /// The listing of a model whose arena this is.
     pub fn list(&self, nodes: &[u64], text: &[u8], out: &mut [u8], told: &mut [u64; 1]) -> u64 {
-        // SAFETY: every slice is a live borrow of its own, which is all that the library asks of its caller.
-        unsafe {
-            stazzumpi_list_model(
-                &self.sorts,
-                &self.fields,
-                &self.variables,
-                &self.functions,
-                &self.members,
-                &self.names,
-                nodes,
-                text,
-                out,
-                told,
-            )
-        }
+        let lists = [&self.sorts[..], &self.fields, &self.variables, &self.functions, &self.members];
+        ours::list_model(lists, &self.names, nodes, text, out, told)
     }
 }
