@@ -1,7 +1,7 @@
 -- The view of a node: the words that it is made of, and that it lies within the words.
 -- Assumes nothing.
 use mathlib.Core.Path.{_≡_, refl, sym, ap, _∙_}
-use mathlib.Core.Bool.{Bool, true, false, cond, true≢false}
+use mathlib.Core.Bool.{Bool, true, false, true≢false}
 use mathlib.Core.List.{List, [], _∷_}
 use Prim.Native.Nat.{ℕ, _+_, _*_, _/_, _≤_, _<_}
 use native.Mathlib.Omega.{arith}
@@ -9,7 +9,7 @@ use lib.Dec.{eqb, ltb}
 use lib.ListN.{length, getD, take, drop, length-take, length-drop}
 use lib.Seq.{getD-take, getD-drop}
 use borrow.Author.Tests.{lt-ltb, le-ltb, ltb-true, eq-eqb, ne-eqb, eqb-true}
-use Rattle.ground.proofs.Tests.{by-test}
+use Rattle.ground.proofs.Tests.{by-test, by-cond}
 use Rattle.ground.proofs.Lists.{at-place}
 use Rattle.arena.specs.declared.node.Node.{Node}
 use Rattle.arena.specs.declared.node.Node.the-variants.{BitVec, Numeral, String, Symbol, App, NoNode}
@@ -67,10 +67,6 @@ module _ (kind one two three : ℕ) where
   no-kind a b c d e = rw (ne-eqb kind 1 a, ne-eqb kind 2 b, ne-eqb kind 3 c, ne-eqb kind 4 d, ne-eqb kind 5 e)
 
 -- what is said of both cases of a test is said of the one that it picks
-picked : (P : Node → Type 0) (t : Bool) (n m : Node) → (t ≡ true → P n) → P m → P (cond t n m)
-picked P true n m f g = f refl
-picked P false n m f g = g
-
 module _ (kind one two three : ℕ) where
   abbrev Made : Node → Type 0
   Made n = there n ≡ true → laid n ≡ nodeWords kind one two three
@@ -79,16 +75,16 @@ module _ (kind one two three : ℕ) where
   made-none e = absurd (true≢false (sym e))
 
   made-unused : (word : ℕ) (n : Node) → (word ≡ 0 → Made n) → Made (unused word n)
-  made-unused word n f = picked Made (eqb word 0) n NoNode (λ t. f (eqb-true word 0 t)) made-none
+  made-unused word n f = by-cond Made (eqb word 0) n NoNode (λ t. f (eqb-true word 0 t)) (λ _. made-none)
 
   laid-of : Made (nodeOf kind one two three)
   laid-of =
-      picked Made (eqb kind 1) _ _ (λ t e. let k = eqb-true kind 1 t in cc)
-      (picked Made (eqb kind 2) _ _ (λ t. made-unused one _ (λ z e. let k = eqb-true kind 2 t in cc))
-      (picked Made (eqb kind 3) _ _ (λ t. made-unused three _ (λ z e. let k = eqb-true kind 3 t in cc))
-      (picked Made (eqb kind 4) _ _ (λ t. made-unused three _ (λ z e. let k = eqb-true kind 4 t in cc))
-      (picked Made (eqb kind 5) _ _ (λ t. made-unused three _ (λ z e. let k = eqb-true kind 5 t in cc))
-      made-none))))
+      by-cond Made (eqb kind 1) _ _ (λ t e. let k = eqb-true kind 1 t in cc)
+      (λ _. by-cond Made (eqb kind 2) _ _ (λ t. made-unused one _ (λ z e. let k = eqb-true kind 2 t in cc))
+      (λ _. by-cond Made (eqb kind 3) _ _ (λ t. made-unused three _ (λ z e. let k = eqb-true kind 3 t in cc))
+      (λ _. by-cond Made (eqb kind 4) _ _ (λ t. made-unused three _ (λ z e. let k = eqb-true kind 4 t in cc))
+      (λ _. by-cond Made (eqb kind 5) _ _ (λ t. made-unused three _ (λ z e. let k = eqb-true kind 5 t in cc))
+      (λ _. made-none)))))
 
 module _ (ws : List ℕ) (i : ℕ) where
   abbrev word : ℕ → ℕ

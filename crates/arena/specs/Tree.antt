@@ -3,7 +3,6 @@ use mathlib.Core.Path.{_≡_}
 use mathlib.Core.Bool.{true}
 use mathlib.Core.List.{List, [], _++_}
 use Prim.Native.Nat.{ℕ, suc, max, _+_, _%_, _^_, _≤_, _<_}
-use lib.ListN.{length}
 use Rattle.words.specs.Extension.{extended}
 use Rattle.utf8.specs.Octets.{utf8}
 

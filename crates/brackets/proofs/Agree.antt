@@ -1,24 +1,24 @@
 -- The walk in numbers goes as the walk on trees goes.
 -- Assumes nothing.
-use mathlib.Core.Path.{_≡_, refl, sym, ap, _∙_}
-use mathlib.Core.List.{List, [], _∷_, _++_, append-nil}
-use Prim.Native.Nat.{ℕ, suc, max, _+_, _-_}
+use mathlib.Core.Path.{_≡_, refl, sym, ap}
+use mathlib.Core.List.{List, [], _∷_, append-nil}
+use Prim.Native.Nat.{ℕ, suc, _-_}
 use native.Mathlib.Omega.{arith}
-use lib.Dec.{eqb, eqb·suc-zero}
+use lib.Dec.{eqb·suc-zero}
 use lib.ListN.{length, length-append}
-use borrow.Author.Tests.{eq-eqb, ne-eqb}
+use borrow.Author.Tests.{ne-eqb}
 use Rattle.refusals.specs.declared.Refusal.{Refusal}
 use Rattle.refusals.specs.declared.Refusal.the-variants.{UnclosedSExpr, TrailingTokens}
-use Rattle.arena.specs.Tree.{Tree, Trees, app, nil, cons, nodes, nodesOf, text, texts, depth, depthOf}
+use Rattle.arena.specs.Tree.{Tree, Trees, app, nodes, text, depth}
 use Rattle.brackets.specs.declared.scan.Phase.{Phase}
 use Rattle.brackets.specs.declared.scan.Phase.the-variants.{Going, Done, Unclosed, Trailing}
 use Rattle.brackets.specs.declared.scan.Scan.{Scan}
 use Rattle.brackets.specs.Token.{Atom, Token, opens, closes, atom, leaf, atomText}
-use Rattle.brackets.specs.Walk.{snoc, Walk, going, done, fault, add, close, onward, step, walk}
-use Rattle.brackets.specs.Count.{start, stopped, phaseAt, opened, closed, added, while, counts, counted}
+use Rattle.brackets.specs.Walk.{Walk, going, done, fault, add, close, onward, step, walk}
+use Rattle.brackets.specs.Count.{start, opened, closed, added, while, counts, counted}
 use Rattle.brackets.proofs.Leaves.{nodes-leaf, text-leaf, depth-leaf}
 use Rattle.brackets.proofs.Snoc.{nodesOf-snoc, texts-snoc, depthOf-snoc}
-use Rattle.brackets.proofs.Frames.{laidN, laidT, laidD, measure}
+use Rattle.brackets.proofs.Frames.{measure}
 
 scan-eq : {p p' : Phase} {b c d e b' c' d' e' : ℕ} → p ≡ p' → b ≡ b' → c ≡ c' → d ≡ d' → e ≡ e'
     → _≡_ {A = Scan} (record { phase = p; depth = b; nodes = c; text = d; most = e }) (record { phase = p'; depth = b'; nodes = c'; text = d'; most = e' })

@@ -1,19 +1,19 @@
 -- The words of the open lists: their lengths, and what the end of a list and one more child change of them.
 -- Assumes nothing.
-use mathlib.Core.Path.{_≡_, refl, sym, ap, _∙_, subst}
+use mathlib.Core.Path.{_≡_, refl, sym, _∙_}
 use mathlib.Core.List.{List, [], _∷_, _++_, append-assoc}
-use Prim.Native.Nat.{ℕ, suc, _+_, _-_, _*_, _≤_, _<_}
+use Prim.Native.Nat.{ℕ, suc, _+_, _-_, _*_, _<_}
 use native.Mathlib.Omega.{arith}
 use native.Mathlib.Numerals.{add-one}
-use lib.ListN.{length, take, drop, getD, set, length-append}
+use lib.ListN.{length, take, getD, set, length-append}
 use lib.Seq.{getD-append-add, getD-at, getD-take, take-set-lt}
-use lib.Dec.{eqb, eqb·suc-zero}
-use Rattle.arena.specs.Tree.{Tree, Trees, bitVec, numeral, string, symbol, app, nil, cons, count, nodes, nodesOf, text, texts, depth, depthOf}
+use lib.Dec.{eqb·suc-zero}
+use Rattle.arena.specs.Tree.{Tree, Trees, app, count, nodes, nodesOf}
 use Rattle.arena.specs.Layout.{stride, appWords, words, wordsOf}
 use Rattle.arena.proofs.Layouts.{length-words-of}
-use Rattle.brackets.specs.Walk.{snoc, Walk, going, done, fault, add, close, onward, step, walk, Outcome, tree, refused, finish}
-use Rattle.brackets.specs.Put.{childrenCell, endCell, innermost, nodeN, bumpN, shutN, closeN, leafN, putN, putT, putS, Counts, FineOpen, FineClose, FineLeaf}
-use Rattle.brackets.proofs.Snoc.{count-snoc, nodesOf-snoc, texts-snoc, wordsOf-snoc}
+use Rattle.brackets.specs.Walk.{snoc}
+use Rattle.brackets.specs.Put.{bumpN}
+use Rattle.brackets.proofs.Snoc.{count-snoc, wordsOf-snoc}
 use Rattle.brackets.proofs.Frames.{laidN, laidT, laidW, laidS}
 use Rattle.ground.proofs.Lists.{set-append-add}
 

@@ -3,9 +3,9 @@
 use mathlib.Core.Path.{_≡_, refl}
 use Prim.Native.Nat.{ℕ}
 use lib.ListN.{length}
-use Rattle.arena.specs.Tree.{Tree, Trees, app, nil, cons, count, nodes, nodesOf, text, texts, depth, depthOf}
-use Rattle.arena.specs.Layout.{stride, appWords, words, wordsOf}
-use Rattle.brackets.specs.Token.{Atom, bits, number, quoted, name, Token, opens, closes, atom, leaf, atomText, atomWords}
+use Rattle.arena.specs.Tree.{nodes, text, depth}
+use Rattle.arena.specs.Layout.{stride, words}
+use Rattle.brackets.specs.Token.{Atom, bits, number, quoted, name, leaf, atomText, atomWords}
 
 pub nodes-leaf : (a : Atom) → nodes (leaf a) ≡ 1
 nodes-leaf (bits w n) = refl

@@ -4,23 +4,21 @@ use mathlib.Core.Path.{_≡_, refl, sym, ap, _∙_, subst}
 use mathlib.Core.List.{List, [], _∷_, _++_, append-assoc, append-nil}
 use Prim.Native.Nat.{ℕ, zero, suc, _+_, _-_, _*_, _^_, _≤_, _<_}
 use native.Mathlib.Omega.{arith}
-use native.Mathlib.Numerals.{add-one}
 use native.Mathlib.Nat.{lt-of-lt-of-le}
-use lib.ListN.{length, take, drop, getD, set, length-append, length-set}
+use lib.ListN.{length, take, drop, getD, length-set}
 use lib.Seq.{sets, length-sets, getD-take, take-set-lt, take-suc-set, take-take, take-at, drop-set-lt}
-use lib.Dec.{eqb, eqb·suc-zero}
+use lib.Dec.{eqb·suc-zero}
 use Rattle.ground.proofs.Lists.{take-sets, drop-sets}
-use Rattle.refusals.specs.declared.Refusal.{Refusal}
 use Rattle.arena.specs.Tree.{Tree, Trees, bitVec, numeral, string, symbol, app, nil, cons, count, nodes, nodesOf, text, texts, depth}
 use Rattle.arena.specs.Layout.{stride, appWords, words}
 use Rattle.brackets.specs.Token.{Atom, Token, opens, closes, atom, leaf, atomText, atomWords}
-use Rattle.brackets.specs.Walk.{snoc, Walk, going, done, fault, add, close, onward}
-use Rattle.brackets.specs.Put.{childrenCell, endCell, innermost, nodeN, bumpN, shutN, closeN, leafN, putN, putT, putS, Counts, FineOpen, FineClose, FineLeaf}
+use Rattle.brackets.specs.Walk.{snoc, Walk, going, done, fault, add, onward}
+use Rattle.brackets.specs.Put.{childrenCell, innermost, nodeN, bumpN, shutN, putN, putT, putS, Counts, FineOpen, FineClose, FineLeaf}
 use Rattle.brackets.proofs.Leaves.{nodes-leaf, text-leaf, words-leaf, length-leaf}
 use Rattle.brackets.proofs.Snoc.{nodesOf-snoc, texts-snoc}
-use Rattle.brackets.proofs.Frames.{laidN, laidT, laidD, laidW, laidS, measure}
+use Rattle.brackets.proofs.Frames.{laidN, laidT, laidW, laidS, measure}
 use Rattle.brackets.proofs.Laid.{more, shut, counted, top, bump-laid, len-stack}
-use Rattle.brackets.proofs.Upto.{Upto, Below, Added, upto-add, len-text, len-snoc, deep}
+use Rattle.brackets.proofs.Upto.{Upto, Below, upto-add, len-text, len-snoc, deep}
 
 abbrev pub Laid : Walk → List ℕ → List ℕ → List ℕ → Type 0
 Laid (going st) N T S = (take (laidN st * stride) N ≡ laidW st) × (take (length (laidT st)) T ≡ laidT st) × (take (length st) S ≡ laidS st)

@@ -1,12 +1,10 @@
 -- The bracket walk in the shape of the Rust's `parse_sexpr`, which pushes, pops and looks whether a token is the last one, is ours.
 -- Assumes nothing.
-use mathlib.Core.Path.{_≡_, refl, sym, ap, _∙_}
+use mathlib.Core.Path.{_≡_, refl, ap}
 use mathlib.Core.List.{List, [], _∷_}
-use Prim.Native.Nat.{ℕ}
-use Rattle.arena.specs.Tree.{Tree, Trees, app, nil, cons, count, nodes, nodesOf, text, texts, depth, depthOf}
-use Rattle.arena.specs.Layout.{stride, appWords, words, wordsOf}
-use Rattle.brackets.specs.Token.{Atom, bits, number, quoted, name, Token, opens, closes, atom, leaf, atomText, atomWords}
-use Rattle.brackets.specs.Walk.{snoc, Walk, going, done, fault, add, close, onward, step, walk, Outcome, tree, refused, finish}
+use Rattle.arena.specs.Tree.{Tree, Trees, app, nil}
+use Rattle.brackets.specs.Token.{Token, opens, closes, atom, leaf}
+use Rattle.brackets.specs.Walk.{snoc, going, done, fault, walk, Outcome, tree, refused, finish}
 use Rattle.refusals.specs.declared.Refusal.{Refusal}
 use Rattle.refusals.specs.declared.Refusal.the-variants.{UnexpectedEnd, UnclosedSExpr, TrailingTokens}
 
@@ -23,7 +21,7 @@ rust (closes ∷ ts) (ks ∷ ps ∷ st) = rust ts (snoc ps (app ks) ∷ st)
 rust (atom b ∷ ts) [] = last (leaf b) ts
 rust (atom b ∷ ts) (ks ∷ st) = rust ts (snoc ks (leaf b) ∷ st)
 
-stuck : (n : Refusal) (ts : List Token) → walk (fault n) ts ≡ fault n
+pub stuck : (n : Refusal) (ts : List Token) → walk (fault n) ts ≡ fault n
 stuck n [] = refl
 stuck n (x ∷ ts) = stuck n ts
 

@@ -1,14 +1,14 @@
 -- One tree more at the end of a list of trees, and other trees after them.
 -- Assumes nothing.
 use mathlib.Core.Path.{_≡_, refl, sym, ap, _∙_}
-use mathlib.Core.List.{List, [], _∷_, _++_, append-assoc, append-nil}
+use mathlib.Core.List.{_++_, append-assoc, append-nil}
 use Prim.Native.Nat.{ℕ, suc, _+_, max}
-use native.Mathlib.Nat.{add-zero, zero-add, add-assoc}
+use native.Mathlib.Nat.{add-zero, add-assoc}
 use native.Mathlib.Omega.{arith}
 use lib.ListN.{length, length-append}
-use Rattle.arena.specs.Tree.{Tree, Trees, app, nil, cons, count, nodes, nodesOf, text, texts, depth, depthOf}
-use Rattle.arena.specs.Layout.{stride, appWords, words, wordsOf}
-use Rattle.brackets.specs.Walk.{snoc, Walk, going, done, fault, add, close, onward, step, walk, Outcome, tree, refused, finish}
+use Rattle.arena.specs.Tree.{Tree, Trees, nil, cons, count, nodes, nodesOf, text, texts, depth, depthOf}
+use Rattle.arena.specs.Layout.{words, wordsOf}
+use Rattle.brackets.specs.Walk.{snoc}
 
 pub count-snoc : (ks : Trees) (t : Tree) → count (snoc ks t) ≡ suc (count ks)
 count-snoc nil t = refl

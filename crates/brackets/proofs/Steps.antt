@@ -1,14 +1,11 @@
 -- One token on, in numbers: what each way through the code gives.
 -- Assumes nothing.
-use mathlib.Core.Path.{_≡_, refl, sym, ap, _∙_}
-use mathlib.Core.Bool.{Bool, cond}
+use mathlib.Core.Path.{_≡_, sym, ap, _∙_}
 use Prim.Native.Nat.{ℕ, max, _+_, _-_}
-use lib.Dec.{eqb}
 use borrow.Author.Tests.{eq-eqb, ne-eqb}
-use Rattle.brackets.specs.declared.scan.Phase.{Phase}
 use Rattle.brackets.specs.declared.scan.Phase.the-variants.{Going, Done, Unclosed, Trailing}
 use Rattle.brackets.specs.declared.scan.Scan.{Scan}
-use Rattle.brackets.specs.Count.{stopped, phaseAt, opened, closed, added, while}
+use Rattle.brackets.specs.Count.{stopped, opened, closed, added, while}
 
 module _ (c next : Scan) where
   pub on-going : {r : Scan} → r ≡ next → c .phase ≡ Going → r ≡ while c next (c .phase)

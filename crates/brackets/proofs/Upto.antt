@@ -1,16 +1,13 @@
 -- A walk that ends in a whole tree never has more than that tree.
 -- Assumes nothing.
-use mathlib.Core.Path.{_≡_, refl, sym, ap, _∙_, subst}
-use mathlib.Core.List.{List, [], _∷_, _++_}
-use Prim.Native.Nat.{ℕ, suc, _+_, _≤_, _<_, max}
+use mathlib.Core.Path.{_≡_}
+use mathlib.Core.List.{List, [], _∷_}
+use Prim.Native.Nat.{ℕ, _+_, _≤_, max}
 use native.Mathlib.Omega.{arith}
 use lib.ListN.{length, length-append}
-use Rattle.arena.specs.Tree.{Tree, Trees, app, nil, cons, count, nodes, nodesOf, text, texts, depth, depthOf}
-use Rattle.arena.specs.Layout.{stride, appWords, words, wordsOf}
-use Rattle.brackets.specs.Token.{Atom, bits, number, quoted, name, Token, opens, closes, atom, leaf, atomText, atomWords}
-use Rattle.brackets.specs.Walk.{snoc, Walk, going, done, fault, add, close, onward, step, walk, Outcome, tree, refused, finish}
-use Rattle.refusals.specs.declared.Refusal.{Refusal}
-use Rattle.brackets.proofs.Leaves.{nodes-leaf, text-leaf, depth-leaf}
+use Rattle.arena.specs.Tree.{Tree, Trees, app, nil, nodes, text, texts, depth}
+use Rattle.brackets.specs.Token.{Token, opens, closes, atom, leaf}
+use Rattle.brackets.specs.Walk.{snoc, Walk, going, done, fault, add, onward, step, walk}
 use Rattle.brackets.proofs.Snoc.{nodesOf-snoc, texts-snoc, depthOf-snoc}
 use Rattle.brackets.proofs.Frames.{laidN, laidT, laidD}
 

@@ -1,5 +1,5 @@
 -- The bracket walk in numbers, as the code keeps it: the law `agrees` ties it to the walk on trees.
-use mathlib.Core.Bool.{Bool, true, false, cond}
+use mathlib.Core.Bool.{cond}
 use mathlib.Core.List.{List, [], _∷_}
 use Prim.Native.Nat.{ℕ, max, _+_, _-_}
 use lib.Dec.{eqb}

@@ -1,5 +1,5 @@
 -- Document 01, "The model walk": the shapes of commands, of function bodies and of tests, matched and nothing read.
-use mathlib.Core.Bool.{Bool, true, false, cond}
+use mathlib.Core.Bool.{Bool, false, cond}
 use mathlib.Core.List.{List, [], _∷_}
 use mathlib.Core.Option.{Option, none, some}
 use Prim.Native.Nat.{ℕ}

@@ -1,9 +1,9 @@
 -- The texts of a number and of a signed number, as the calls leave them.
 -- Assumes nothing.
-use mathlib.Core.Path.{_≡_, refl, sym, ap, ap₂, _∙_, subst}
+use mathlib.Core.Path.{_≡_, sym, ap, ap₂, _∙_, subst}
 use mathlib.Core.Bool.{Bool, true, false}
 use mathlib.Core.List.{List, [], _∷_, _++_}
-use Prim.Native.Nat.{ℕ, zero, suc, _+_, _-_, _<_, _≤_}
+use Prim.Native.Nat.{ℕ, _+_, _-_, _<_, _≤_}
 use native.Mathlib.Numerals.{add-one}
 use native.Mathlib.Omega.{arith}
 use lib.Dec.{T}
@@ -15,7 +15,6 @@ use mir.Val.{SFits}
 use mir.ValLaws.{toZ-ofZ}
 use borrow.Author.Tests.{ltb-true}
 use Rattle.refusals.specs.declared.Refusal.the-variants.{OutRoom}
-use Rattle.lent.specs.declared.Written.{Written}
 use Rattle.lent.specs.declared.Written.the-variants.{Length, Refused}
 use Rattle.lent.specs.Left.{onto, writing, Leaves}
 use Rattle.lent.proofs.Lefts.{leaves-text, leaves-short}

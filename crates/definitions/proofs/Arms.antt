@@ -8,26 +8,23 @@ use Prim.Native.Nat.{ℕ, min, _+_}
 use native.Mathlib.Omega.{arith}
 use lib.Dec.{eqb}
 use lib.ListN.{length}
-use Rattle.refusals.specs.declared.Refusal.{Refusal}
 use Rattle.refusals.specs.declared.Refusal.the-variants.{UnmatchedType, UnexpectedForm}
 use Rattle.arena.specs.Tree.{Tree}
-use Rattle.tables.specs.Layout.{Lent, tablesOf}
-use Rattle.tables.specs.Sort.{Tables}
+use Rattle.tables.specs.Layout.{tablesOf}
 use Rattle.sorts.specs.Result.{Result, ok, refused, _>>=_, unless, found}
 use Rattle.sorts.specs.Sort.{levels}
 use Rattle.values.specs.Text.{text}
-use Rattle.values.specs.Value.{Value, vBool}
+use Rattle.values.specs.Value.{vBool}
 use Rattle.literals.specs.declared.answer.Literal.{Literal}
 use Rattle.literals.specs.declared.form.Expected.{Expected}
 use Rattle.literals.specs.Literal.{Lit, read}
-use Rattle.literals.specs.Answer.{capped, answer}
 use Rattle.literals.specs.Plan.{DecodesAt}
 use Rattle.commands.specs.declared.test.KeyFound.{KeyFound}
 use Rattle.commands.specs.Command.{key}
 use Rattle.commands.specs.TestShows.{KeyShows, KeyAt}
-use Rattle.model.specs.Model.{Arm, armOf}
+use Rattle.model.specs.Model.{armOf}
 use Rattle.definitions.specs.declared.measure.Measured.{Measured}
-use Rattle.definitions.specs.Measure.{valueSize, armSize, measured, readArm, readTest, testAs, ValueOf, ArmOf, ArmAt, TestAt}
+use Rattle.definitions.specs.Measure.{valueSize, armSize, measured, testAs, ValueOf, ArmOf, ArmAt, TestAt}
 use Rattle.definitions.proofs.Measures.{length-arm}
 
 module _ (sorts fields members names ws ts : List ℕ) (offset size argument test : ℕ) (q : KeyFound) (h : KeyAt ws ts test offset size q) where

@@ -3,7 +3,7 @@
 use mathlib.Core.Path.{_≡_, refl, sym, ap, _∙_}
 use mathlib.Core.Bool.{Bool, true, false}
 use mathlib.Core.List.{List, [], _∷_, _++_, append-assoc, append-nil}
-use mathlib.Core.Option.{Option, none, some}
+use mathlib.Core.Option.{none, some}
 use Prim.Native.Nat.{ℕ, min, _+_, _≤_}
 use native.Mathlib.Omega.{arith}
 use lib.Dec.{eqb}
@@ -17,14 +17,13 @@ use Rattle.shapes.specs.Shows.{Standing, Reads}
 use Rattle.sorts.specs.Result.{Result, ok, refused, _>>=_, unless, found}
 use Rattle.sorts.specs.Sort.{levels}
 use Rattle.values.specs.Text.{text}
-use Rattle.values.specs.Value.{Value}
 use Rattle.literals.specs.declared.answer.Literal.{Literal}
 use Rattle.literals.specs.declared.form.Expected.{Expected}
 use Rattle.literals.specs.Literal.{Lit, read}
-use Rattle.literals.specs.Answer.{capped, answer}
+use Rattle.literals.specs.Answer.{capped}
 use Rattle.literals.specs.Plan.{Given, DecodesAt}
 use Rattle.commands.specs.declared.chain.LinkFound.{LinkFound}
-use Rattle.commands.specs.Command.{Chain, arm, default, chain, key}
+use Rattle.commands.specs.Command.{Chain, arm, chain, key}
 use Rattle.commands.specs.LinkShows.{LinkShows, LinkAt}
 use Rattle.commands.proofs.Links.{standing-within, shown-link}
 use Rattle.model.specs.Model.{Arm, armOf, Table, tableOf, push, readChain}

@@ -3,7 +3,7 @@
 use mathlib.Core.Path.{_≡_, refl, sym, ap, _∙_, subst}
 use mathlib.Core.Bool.{Bool, true, false}
 use mathlib.Core.List.{List}
-use mathlib.Core.Option.{Option, none, some}
+use mathlib.Core.Option.{Option}
 use Prim.Native.Nat.{ℕ}
 use lib.Dec.{eqb}
 use borrow.Author.Tests.{eq-eqb, ne-eqb}
@@ -13,10 +13,9 @@ use Rattle.refusals.specs.declared.Refusal.the-variants.{UnmatchedType}
 use Rattle.arena.specs.Tree.{Tree, Trees}
 use Rattle.tables.specs.declared.sort.SortRow.{SortRow}
 use Rattle.tables.specs.Layout.{Lent, tablesOf}
-use Rattle.tables.specs.Sort.{Sort}
 use Rattle.tables.specs.View.{sortRowAt, meant}
 use Rattle.tables.proofs.Sorts.{row-meant}
-use Rattle.shapes.specs.Shows.{Standing, Reads}
+use Rattle.shapes.specs.Shows.{Standing}
 use Rattle.sorts.specs.declared.sort.Sorted.{Sorted}
 use Rattle.sorts.specs.Reads.{ReadsSort}
 use Rattle.sorts.specs.Result.{Result, ok, refused, _>>=_, unless}
@@ -25,7 +24,7 @@ use Rattle.sorts.proofs.Read.{read-row, read-refused}
 use Rattle.commands.specs.declared.test.TestsFound.{TestsFound}
 use Rattle.commands.specs.Command.{tests}
 use Rattle.commands.specs.TestShows.{TestsShow, TestsAt}
-use Rattle.model.specs.Model.{isBool, Table, bodyBy, readBody}
+use Rattle.model.specs.Model.{isBool, bodyBy, readBody}
 use Rattle.definitions.specs.declared.measure.Measured.{Measured}
 use Rattle.definitions.specs.Measure.{tableSize, measured, boolRow, ChainAt, TestsOf, BodyAt, FunctionAt}
 

@@ -1,8 +1,8 @@
 -- Literals that were read, measured: one law for each way out.
 -- Assumes nothing.
-use mathlib.Core.Path.{_≡_, refl, sym, ap, _∙_, subst}
-use mathlib.Core.Bool.{Bool, true, false, cond}
-use mathlib.Core.List.{[], _∷_, _++_}
+use mathlib.Core.Path.{_≡_, sym, ap, _∙_}
+use mathlib.Core.Bool.{Bool, true, false}
+use mathlib.Core.List.{[], _++_}
 use Prim.Native.Nat.{ℕ, min, _+_}
 use native.Mathlib.Omega.{arith}
 use lib.Dec.{eqb}
@@ -10,15 +10,15 @@ use lib.ListN.{length, length-append}
 use borrow.Author.Tests.{eq-eqb, ne-eqb}
 use Rattle.refusals.specs.declared.Refusal.{Refusal}
 use Rattle.refusals.specs.declared.Refusal.the-variants.{UnmatchedType}
-use Rattle.sorts.specs.Result.{Result, ok, refused, _>>=_, unless}
+use Rattle.sorts.specs.Result.{Result, ok, _>>=_, unless}
 use Rattle.values.specs.Text.{text}
 use Rattle.values.specs.Value.{Value}
 use Rattle.literals.specs.declared.answer.Literal.{Literal}
 use Rattle.literals.specs.Literal.{Lit}
 use Rattle.literals.specs.Answer.{capped, answer}
-use Rattle.literals.proofs.Answers.{Told, value-told, refused-told}
+use Rattle.literals.proofs.Answers.{value-told, refused-told}
 use Rattle.model.specs.Model.{Arm, armOf}
-use Rattle.model.specs.Listing.{line, armLines}
+use Rattle.model.specs.Listing.{line}
 use Rattle.model.proofs.Lengths.{length-line}
 use Rattle.definitions.specs.declared.measure.Measured.{Measured}
 use Rattle.definitions.specs.Measure.{valueSize, armSize, measured, declaredAs, ValueOf, ArmOf}

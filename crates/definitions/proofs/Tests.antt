@@ -3,7 +3,7 @@
 use mathlib.Core.Path.{_≡_, refl, sym, ap, _∙_, subst}
 use mathlib.Core.Bool.{Bool, true, false}
 use mathlib.Core.List.{List, [], _∷_, _++_, append-nil}
-use mathlib.Core.Option.{Option, none, some}
+use mathlib.Core.Option.{none}
 use Prim.Native.Nat.{ℕ, min, _+_, _-_, _≤_, _<_}
 use native.Mathlib.Omega.{arith}
 use lib.Dec.{eqb}
@@ -14,7 +14,7 @@ use Rattle.arena.specs.Node.{afterAt}
 use Rattle.arena.specs.Tree.{Tree, Trees, nil, cons, count}
 use Rattle.tables.specs.Layout.{Lent, tablesOf}
 use Rattle.tables.specs.Sort.{Tables}
-use Rattle.shapes.specs.Shows.{Standing, StandingAll, Reads}
+use Rattle.shapes.specs.Shows.{StandingAll, Reads}
 use Rattle.shapes.proofs.Stood.{first-of, others-of}
 use Rattle.sorts.specs.Result.{Result, ok, refused, _>>=_, unless, found}
 use Rattle.sorts.specs.Sort.{levels}

@@ -1,25 +1,22 @@
 -- A variable's definition: one law for each way out.
 -- Assumes nothing.
-use mathlib.Core.Path.{_≡_, refl, sym, ap, _∙_, subst}
-use mathlib.Core.Bool.{Bool, true, false, cond}
+use mathlib.Core.Path.{_≡_, refl, sym, ap, _∙_}
+use mathlib.Core.Bool.{Bool, true, false}
 use mathlib.Core.List.{List}
-use mathlib.Core.Option.{Option, some}
+use mathlib.Core.Option.{some}
 use Prim.Native.Nat.{ℕ}
 use lib.Dec.{eqb}
 use Rattle.refusals.specs.declared.Refusal.{Refusal}
 use Rattle.refusals.specs.declared.Refusal.the-variants.{UnmatchedType}
-use Rattle.arena.specs.Tree.{Tree}
-use Rattle.tables.specs.Layout.{Lent, tablesOf}
+use Rattle.tables.specs.Layout.{tablesOf}
 use Rattle.sorts.specs.declared.sort.Sorted.{Sorted}
 use Rattle.sorts.specs.Reads.{ReadsSort}
 use Rattle.sorts.specs.Result.{Result, ok, refused, _>>=_, unless}
 use Rattle.sorts.specs.Sort.{readSort, levels}
 use Rattle.sorts.proofs.Read.{read-row, read-refused}
-use Rattle.values.specs.Value.{Value}
 use Rattle.literals.specs.declared.answer.Literal.{Literal}
 use Rattle.literals.specs.declared.form.Expected.{Expected}
 use Rattle.literals.specs.Literal.{Lit, read}
-use Rattle.literals.specs.Answer.{answer}
 use Rattle.literals.specs.Plan.{DecodesAt}
 use Rattle.definitions.specs.declared.measure.Measured.{Measured}
 use Rattle.definitions.specs.Measure.{valueSize, measured, declaredAs, ValueOf, VariableAt}

@@ -14,7 +14,7 @@ use Rattle.ground.proofs.Tests.{by-test, both-left, both-right, both}
 use Rattle.utf8.specs.Octets.{utf8}
 use Rattle.lexicon.specs.Class.{other, classOf}
 use Rattle.lexicon.specs.Span.{inSymbol}
-use Rattle.lexicon.specs.Symbol.{every, oneSymbol}
+use Rattle.lexicon.specs.Symbol.{oneSymbol}
 use Rattle.arena.specs.Text.{sameText}
 use Rattle.arena.proofs.Texts.{same-refl}
 use Rattle.order.specs.Every.{Every}
@@ -28,19 +28,19 @@ lineless s = all (λ b. not (eqb b 10)) s
 not-ten : (test : ℕ → Bool) (b : ℕ) → test 10 ≡ false → test b ≡ true → not (eqb b 10) ≡ true
 not-ten test b f h = by-test (eqb b 10) (λ e. absurd (true≢false (sym h ∙ ap test (eqb-true b 10 e) ∙ f))) (λ e. ap not e)
 
-every-lineless : (s : List ℕ) → every inSymbol s ≡ true → lineless s ≡ true
-unfolding every all inSymbol classOf
+every-lineless : (s : List ℕ) → all inSymbol s ≡ true → lineless s ≡ true
+unfolding all inSymbol classOf
 every-lineless [] h = refl
-every-lineless (b ∷ bs) h = both (not-ten inSymbol b refl (both-left (inSymbol b) (every inSymbol bs) h)) (every-lineless bs (both-right (inSymbol b) (every inSymbol bs) h))
+every-lineless (b ∷ bs) h = both (not-ten inSymbol b refl (both-left (inSymbol b) (all inSymbol bs) h)) (every-lineless bs (both-right (inSymbol b) (all inSymbol bs) h))
 
 -- a symbol stands in one line
 pub symbol-lineless : (s : List ℕ) → oneSymbol s ≡ true → lineless s ≡ true
 unfolding oneSymbol all classOf
 symbol-lineless [] h = absurd (true≢false (sym h))
 symbol-lineless (b ∷ bs) h =
-    let front = both-left (eqb (classOf b) other && every inSymbol bs) (utf8 (b ∷ bs)) h in
-    both (not-ten (λ k. eqb (classOf k) other) b refl (both-left (eqb (classOf b) other) (every inSymbol bs) front))
-    (every-lineless bs (both-right (eqb (classOf b) other) (every inSymbol bs) front))
+    let front = both-left (eqb (classOf b) other && all inSymbol bs) (utf8 (b ∷ bs)) h in
+    both (not-ten (λ k. eqb (classOf k) other) b refl (both-left (eqb (classOf b) other) (all inSymbol bs) front))
+    (every-lineless bs (both-right (eqb (classOf b) other) (all inSymbol bs) front))
 
 starts-not : (b : ℕ) (bs : List ℕ) → lineless (b ∷ bs) ≡ true → 10 ≡ b → ⊥
 unfolding all

@@ -12,7 +12,7 @@ use Rattle.ground.specs.Lists.{any, all, distinct, find, at}
 use Rattle.utf8.specs.Octets.{octets, utf8}
 use Rattle.lexicon.specs.Class.{classOf}
 use Rattle.lexicon.specs.Span.{inSymbol}
-use Rattle.lexicon.specs.Symbol.{every, oneSymbol}
+use Rattle.lexicon.specs.Symbol.{oneSymbol}
 use Rattle.arena.specs.Text.{sameText}
 use Rattle.arena.specs.Tree.{Tree, string as quoted}
 use Rattle.order.specs.Order.{before, insert, arranged}
@@ -107,7 +107,7 @@ bodies :
     ∷ record { tablesRight = true; nameApart = false; keysOnce = true; given = some (vEntity 1 (bytes "y")); meant = none }
     ∷ record { tablesRight = false; nameApart = true; keysOnce = true; given = some (vEntity 1 (bytes "y")); meant = none }
     ∷ []
-unfolding lawful sortsRight all distinct any find at oneSymbol every inSymbol classOf utf8 octets kept keptWords sameText before insert arranged sortRow namedSort memberRow shape sortShape _>>=_ unless readSort normal text read chain tests key readChain readTests equal unbarred mentions meaning firstOf apart noTwo
+unfolding lawful sortsRight all distinct any find at oneSymbol inSymbol classOf utf8 octets kept keptWords sameText before insert arranged sortRow namedSort memberRow shape sortShape _>>=_ unless readSort normal text read chain tests key readChain readTests equal unbarred mentions meaning firstOf apart noTwo
 bodies = refl
 
 -- a model of one command, and what it defines
@@ -116,7 +116,7 @@ variable sort value = of (of (word "define-fun" ∷ word "v" ∷ of [] ∷ word 
 
 -- a member of a bool row, which lawful tables have not: a variable's value is not of its sort
 member-read : (lawful (tables "E" 0) ≡ false) × (readModel (tables "E" 0) (variable "Bool" (word "m")) ≡ ok (isVariable 0 (vEntity 0 (bytes "x")) ∷ []))
-unfolding lawful sortsRight all distinct any oneSymbol every inSymbol classOf utf8 octets kept keptWords find at sameText sortRow memberRow variableRow shape sortShape _>>=_ unless readSort read command readCommands readModel
+unfolding lawful sortsRight all distinct any oneSymbol inSymbol classOf utf8 octets kept keptWords find at sameText sortRow memberRow variableRow shape sortShape _>>=_ unless readSort read command readCommands readModel
 member-read = (refl, refl)
 
 member-unsorted : Sorted (tables "E" 0) 0 (vEntity 0 (bytes "x")) → ⊥
@@ -128,7 +128,7 @@ abbrev strings : Tables
 strings = record { sorts = string ∷ []; variables = record { name = bytes "v"; sort = 0 } ∷ []; functions = []; members = [] }
 
 string-read : (lawful strings ≡ true) × (readModel strings (variable "String" (quoted (256 ∷ []))) ≡ ok (isVariable 0 (vString (256 ∷ [])) ∷ []))
-unfolding lawful sortsRight all distinct any oneSymbol every inSymbol classOf utf8 octets kept keptWords find at sameText sortRow variableRow shape sortShape _>>=_ unless readSort read command readCommands readModel
+unfolding lawful sortsRight all distinct any oneSymbol inSymbol classOf utf8 octets kept keptWords find at sameText sortRow variableRow shape sortShape _>>=_ unless readSort read command readCommands readModel
 string-read = (refl, refl)
 
 string-unsorted : Sorted strings 0 (vString (256 ∷ [])) → ⊥
@@ -153,7 +153,7 @@ model = of (of (word "define-fun" ∷ word "f" ∷ of (of (word "a" ∷ word "Bo
 
 met : (lawful complete ≡ true) × (apart complete (bytes "a") ≡ true) × (noTwo complete (from 0 1) (record { argument = bytes "a"; term = body }) ≡ true)
     × (readModel complete model ≡ ok (isFunction 0 (tableOf (armOf (vBool true) (vEntity 1 (bytes "x")) ∷ []) (vEntity 1 (bytes "y"))) ∷ []))
-unfolding lawful sortsRight all distinct any find at oneSymbol every inSymbol classOf utf8 octets kept keptWords sameText sortRow namedSort functionRow memberRow shape sortShape _>>=_ unless readSort normal read command chain tests key readChain readCommands readModel equal unbarred apart noTwo
+unfolding lawful sortsRight all distinct any find at oneSymbol inSymbol classOf utf8 octets kept keptWords sameText sortRow namedSort functionRow memberRow shape sortShape _>>=_ unless readSort normal read command chain tests key readChain readCommands readModel equal unbarred apart noTwo
 met = (refl, refl, refl, refl)
 
 met-octets : Octets model

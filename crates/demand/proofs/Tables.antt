@@ -22,7 +22,7 @@ use Rattle.meaning.proofs.Results.{ok-same, went, passed, was-found}
 use Rattle.meaning.proofs.Fits.{read-fits}
 use Rattle.commands.specs.Command.{Chain, default, arm, chain, tests, key}
 use Rattle.commands.proofs.Shapes.{TestView, t-left, t-right, key-view, tests-view, ite, chain-by}
-use Rattle.model.specs.Model.{Arm, Table, isBool, readChain, readTests, bodyBy, readBody}
+use Rattle.model.specs.Model.{Table, isBool, readChain, readTests, bodyBy, readBody}
 use Rattle.demand.specs.Fits.{TableFits}
 
 -- the row is bool's

@@ -6,9 +6,9 @@ use mathlib.Core.Option.{Option, none, some}
 use Prim.Native.String.{String}
 use native.Mathlib.Decide.{ℕ-discrete}
 use Rattle.ground.specs.Bytes.{bytes}
-use Rattle.ground.specs.Lists.{find, at}
+use Rattle.ground.specs.Lists.{all, find, at}
 use Rattle.words.specs.Radix.{worth}
-use Rattle.words.specs.Run.{from, digits, parsed}
+use Rattle.words.specs.Run.{from, parsed}
 use Rattle.arena.specs.Text.{sameText}
 use Rattle.arena.specs.Tree.{Tree, Trees, bitVec, numeral, symbol, app, nil, cons}
 use Rattle.tables.specs.Find.{sortRow, memberRow}
@@ -54,5 +54,5 @@ examples :
     ∷ means "a" (vBool true) (of (word "ite" ∷ word "a" ∷ word "true" ∷ word "b" ∷ []))
     ∷ []
     ≡ some (vBool false) ∷ some (vBool false) ∷ some (vBool true) ∷ some (vBool true) ∷ some (vBool true) ∷ some (vBool false) ∷ none ∷ none ∷ none ∷ []
-unfolding find at worth from digits parsed sameText sortRow memberRow shape _>>=_ unless normal read equal unbarred mentions meaning ℕ-discrete
+unfolding find at worth from all parsed sameText sortRow memberRow shape _>>=_ unless normal read equal unbarred mentions meaning ℕ-discrete
 examples = refl

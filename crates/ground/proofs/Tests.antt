@@ -1,12 +1,10 @@
 -- Case splits on numbers, and Boolean tests.
 -- Assumes nothing.
 use mathlib.Core.Path.{_≡_, refl, sym, _∙_}
-use mathlib.Core.Bool.{Bool, true, false, _&&_, false≢true}
+use mathlib.Core.Bool.{Bool, true, false, cond, _&&_, false≢true}
 use Prim.Native.Nat.{ℕ, _≤_, _<_}
-use native.Mathlib.Decide.{decLt, ℕ-discrete}
+use native.Mathlib.Decide.{decLt}
 use native.Mathlib.Omega.{arith}
-use lib.Dec.{leb}
-use borrow.Author.Tests.{le-leb, lt-leb}
 pub use mathlib.Core.Bool.{and-true, and-false}
 
 -- a number is below another, or not
@@ -17,6 +15,11 @@ by-order a b f g = elim (decLt a b) [ yes h ↦ f h | no h ↦ g (omega (arith, 
 pub by-test {ℓ} : (t : Bool) {P : Type ℓ} → (t ≡ true → P) → (t ≡ false → P) → P
 by-test true f g = f refl
 by-test false f g = g refl
+
+-- what each of the two has where it is chosen, the chosen one has
+pub by-cond : {A : Type 0} (P : A → Type 0) (t : Bool) (x y : A) → (t ≡ true → P x) → (t ≡ false → P y) → P (cond t x y)
+by-cond P true x y f g = f refl
+by-cond P false x y f g = g refl
 
 -- two tests pass if each does
 pub both : {a b : Bool} → a ≡ true → b ≡ true → (a && b) ≡ true

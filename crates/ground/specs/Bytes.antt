@@ -1,6 +1,6 @@
 -- Words that document 01 and the standard quote, as bytes.
 use mathlib.Core.List.{List, [], _∷_}
-use Prim.Native.Char.{Char, code}
+use Prim.Native.Char.{code}
 use Prim.Native.Nat.{ℕ}
 use Prim.Native.String.{String, [] as ends, _∷_ as next}
 

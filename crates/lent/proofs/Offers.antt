@@ -1,15 +1,15 @@
 -- Pieces written one after the other are one piece.
 -- Assumes nothing.
-use mathlib.Core.Path.{_≡_, refl, sym, ap, _∙_, subst}
-use mathlib.Core.List.{List, [], _∷_, _++_, append-nil}
+use mathlib.Core.Path.{_≡_, refl, ap, _∙_, subst}
+use mathlib.Core.List.{List, [], _∷_, _++_}
 use Prim.Native.Nat.{ℕ, suc, _+_, _-_, _≤_, _<_}
 use native.Mathlib.Nat.{add-zero, zero-add}
 use native.Mathlib.Omega.{arith}
-use lib.ListN.{length, take, drop, set, length-append, length-drop}
+use lib.ListN.{length, take, drop, set, length-append}
 use lib.Seq.{sets, sets-eq}
 use borrow.Rule.Slice.PartMut.{putMid}
 use Rattle.lent.specs.Left.{onto}
-use Rattle.lent.specs.Put.{Puts, Fronts, Offers}
+use Rattle.lent.specs.Put.{Fronts, Offers}
 use Rattle.lent.proofs.Pieces.{piece-long}
 use Rattle.lent.proofs.Copies.{tail-front}
 

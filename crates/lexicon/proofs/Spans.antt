@@ -11,7 +11,7 @@ use Rattle.ground.proofs.Lists.{at-place}
 use Rattle.ground.proofs.Tests.{by-test}
 use borrow.Author.Tests.{eq-eqb, ne-eqb}
 use Rattle.lexicon.specs.Span.{spanBy, inLine}
-use Rattle.lexicon.specs.Symbol.{every}
+use Rattle.ground.specs.Lists.{all}
 
 module _ (test : ℕ → Bool) where
   passes : (b : ℕ) (bs : List ℕ) → test b ≡ true → spanBy test (b ∷ bs) ≡ suc (spanBy test bs)
@@ -47,18 +47,18 @@ module _ (test : ℕ → Bool) where
       (λ e. rw (fails b bs e) e)
 
   -- the run is the whole exactly if each byte passes
-  pub every-span : (s : List ℕ) → every test s ≡ eqb (spanBy test s) (length s)
-  unfolding every spanBy
-  every-span [] = refl
-  every-span (b ∷ bs) =
+  pub all-span : (s : List ℕ) → all test s ≡ eqb (spanBy test s) (length s)
+  unfolding all spanBy
+  all-span [] = refl
+  all-span (b ∷ bs) =
       by-test (test b)
-      (λ e. rw e (every-span bs ∙ sym (eqb·suc-suc (spanBy test bs) (length bs))))
+      (λ e. rw e (all-span bs ∙ sym (eqb·suc-suc (spanBy test bs) (length bs))))
       (λ e. rw e (sym (eqb·zero-suc (length bs))))
 
-  pub every-take : (s : List ℕ) → every test (take (spanBy test s) s) ≡ true
-  unfolding every spanBy
-  every-take [] = refl
-  every-take (b ∷ bs) = by-test (test b) (λ e. rw e (rw e (every-take bs))) (λ e. rw e)
+  pub all-take : (s : List ℕ) → all test (take (spanBy test s) s) ≡ true
+  unfolding all spanBy
+  all-take [] = refl
+  all-take (b ∷ bs) = by-test (test b) (λ e. rw e (rw e (all-take bs))) (λ e. rw e)
 
   module _ (s : List ℕ) (i : ℕ) where
     pub span-end-le : i ≤ length s → i + spanBy test (drop i s) ≤ length s

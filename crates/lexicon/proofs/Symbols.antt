@@ -12,8 +12,9 @@ use Rattle.utf8.specs.Octets.{utf8}
 use Rattle.ground.proofs.Tests.{and-false, both-left, both-right}
 use Rattle.lexicon.specs.Class.{digit, other, classOf}
 use Rattle.lexicon.specs.Span.{inSymbol, symbolSpan}
-use Rattle.lexicon.specs.Symbol.{every, oneSymbol}
-use Rattle.lexicon.proofs.Spans.{every-span, every-take}
+use Rattle.ground.specs.Lists.{all}
+use Rattle.lexicon.specs.Symbol.{oneSymbol}
+use Rattle.lexicon.proofs.Spans.{all-span, all-take}
 
 module _ (b k : ℕ) (e : k ≡ classOf b) where
   pub in-symbol-other : k ≡ other → true ≡ inSymbol b
@@ -26,7 +27,7 @@ module _ (b k : ℕ) (e : k ≡ classOf b) where
 
 as-run : (b : ℕ) (bs : List ℕ) → oneSymbol (b ∷ bs) ≡ (eqb (classOf b) other && eqb (symbolSpan bs) (length bs) && utf8 (b ∷ bs))
 unfolding oneSymbol
-as-run b bs = rw (every-span inSymbol bs)
+as-run b bs = rw (all-span inSymbol bs)
 
 pub not-empty : (s : List ℕ) → length s ≡ 0 → false ≡ oneSymbol s
 unfolding oneSymbol
@@ -54,23 +55,23 @@ unfolding oneSymbol
 one-symbol-starts [] h = absurd (false≢true h)
 one-symbol-starts (b ∷ bs) h =
     eqb-true (classOf b) other
-    (both-left (eqb (classOf b) other) (every inSymbol bs) (both-left (eqb (classOf b) other && every inSymbol bs) (utf8 (b ∷ bs)) h))
+    (both-left (eqb (classOf b) other) (all inSymbol bs) (both-left (eqb (classOf b) other && all inSymbol bs) (utf8 (b ∷ bs)) h))
 
 pub one-symbol-utf8 : (s : List ℕ) → oneSymbol s ≡ true → utf8 s ≡ true
 unfolding oneSymbol
 one-symbol-utf8 [] h = absurd (false≢true h)
-one-symbol-utf8 (b ∷ bs) h = both-right (eqb (classOf b) other && every inSymbol bs) (utf8 (b ∷ bs)) h
+one-symbol-utf8 (b ∷ bs) h = both-right (eqb (classOf b) other && all inSymbol bs) (utf8 (b ∷ bs)) h
 
 pub one-symbol-span : (s : List ℕ) → oneSymbol s ≡ true → symbolSpan s ≡ length s
-unfolding oneSymbol every
+unfolding oneSymbol all
 one-symbol-span [] h = absurd (false≢true h)
 one-symbol-span (b ∷ bs) h =
-    let w : (eqb (classOf b) other && every inSymbol bs) ≡ true = both-left (eqb (classOf b) other && every inSymbol bs) (utf8 (b ∷ bs)) h in
-    let o : classOf b ≡ other = eqb-true (classOf b) other (both-left (eqb (classOf b) other) (every inSymbol bs) w) in
-    let a : every inSymbol (b ∷ bs) ≡ true = rw (← in-symbol-other b (classOf b) refl o) (both-right (eqb (classOf b) other) (every inSymbol bs) w) in
-    eqb-true (symbolSpan (b ∷ bs)) (length (b ∷ bs)) (sym (every-span inSymbol (b ∷ bs)) ∙ a)
+    let w : (eqb (classOf b) other && all inSymbol bs) ≡ true = both-left (eqb (classOf b) other && all inSymbol bs) (utf8 (b ∷ bs)) h in
+    let o : classOf b ≡ other = eqb-true (classOf b) other (both-left (eqb (classOf b) other) (all inSymbol bs) w) in
+    let a : all inSymbol (b ∷ bs) ≡ true = rw (← in-symbol-other b (classOf b) refl o) (both-right (eqb (classOf b) other) (all inSymbol bs) w) in
+    eqb-true (symbolSpan (b ∷ bs)) (length (b ∷ bs)) (sym (all-span inSymbol (b ∷ bs)) ∙ a)
 
 -- what the lexer takes where a symbol starts is one, if it is UTF-8
 pub one-symbol-taken : (b : ℕ) (bs : List ℕ) → classOf b ≡ other → oneSymbol (b ∷ take (symbolSpan bs) bs) ≡ utf8 (b ∷ take (symbolSpan bs) bs)
 unfolding oneSymbol
-one-symbol-taken b bs h = rw (eq-eqb (classOf b) other h) (rw (every-take inSymbol bs))
+one-symbol-taken b bs h = rw (eq-eqb (classOf b) other h) (rw (all-take inSymbol bs))

@@ -5,7 +5,8 @@ use mathlib.Core.List.{[], _∷_, map}
 use Rattle.utf8.specs.Octets.{octets, utf8}
 use Rattle.lexicon.specs.Class.{blank, opening, closing, comment, quote, hash, digit, other, classOf}
 use Rattle.lexicon.specs.Span.{spanBy, inSymbol, symbolSpan, inLine, lineSpan}
-use Rattle.lexicon.specs.Symbol.{every, oneSymbol}
+use Rattle.ground.specs.Lists.{all}
+use Rattle.lexicon.specs.Symbol.{oneSymbol}
 
 -- vertical tab is no white space, and the neighbours of the digits are none
 classed : map classOf (0x09 ∷ 0x0A ∷ 0x0B ∷ 0x0C ∷ 0x0D ∷ 0x20 ∷ 0x22 ∷ 0x23 ∷ 0x28 ∷ 0x29 ∷ 0x2F ∷ 0x30 ∷ 0x39 ∷ 0x3A ∷ 0x3B ∷ 0x7C ∷ 0xFF ∷ [])
@@ -15,13 +16,13 @@ classed = refl
 
 -- `a1`, `|`, one with vertical tab in it, and é
 symbols : map oneSymbol ((0x61 ∷ 0x31 ∷ []) ∷ (0x7C ∷ []) ∷ (0x61 ∷ 0x0B ∷ 0x61 ∷ []) ∷ (0xC3 ∷ 0xA9 ∷ []) ∷ []) ≡ true ∷ true ∷ true ∷ true ∷ []
-unfolding oneSymbol every inSymbol classOf utf8 octets
+unfolding oneSymbol all inSymbol classOf utf8 octets
 symbols = refl
 
 -- nothing, `1a`, `a b`, `a#`, and a lone FF, which is not UTF-8
 no-symbols : map oneSymbol ([] ∷ (0x31 ∷ 0x61 ∷ []) ∷ (0x61 ∷ 0x20 ∷ 0x62 ∷ []) ∷ (0x61 ∷ 0x23 ∷ []) ∷ (0xFF ∷ []) ∷ [])
     ≡ false ∷ false ∷ false ∷ false ∷ false ∷ []
-unfolding oneSymbol every inSymbol classOf utf8 octets
+unfolding oneSymbol all inSymbol classOf utf8 octets
 no-symbols = refl
 
 -- `ab(` and `a` with a line feed after it

@@ -23,7 +23,7 @@ use Rattle.demand.specs.Alike.{Alike}
 use Rattle.demand.specs.Demand.{Demand}
 use Rattle.demand.proofs.Tells.{bytes-tell}
 use Rattle.demand.proofs.Theorem.{third-demand-sound}
-use Rattle.listing.specs.Lists.{listed, fitted, left, Lists, bad-table, bad-arena, walked}
+use Rattle.listing.specs.Lists.{fitted, left, Lists, bad-table, bad-arena, walked}
 use Rattle.listing.proofs.Wholes.{fits, short, passes-rules}
 
 -- the model that the words and the text hold, what it defines, and its listing at the front

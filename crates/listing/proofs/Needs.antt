@@ -11,12 +11,11 @@ use lib.ListN.{length, length-append}
 use Rattle.ground.specs.Lists.{at}
 use Rattle.ground.proofs.Tests.{by-order}
 use Rattle.refusals.specs.declared.Refusal.{Refusal}
-use Rattle.refusals.specs.declared.Refusal.the-variants.{UnexpectedModel, UnmatchedType, UnexpectedForm, OutRoom}
+use Rattle.refusals.specs.declared.Refusal.the-variants.{UnexpectedModel, UnmatchedType, UnexpectedForm}
 use Rattle.refusals.specs.Number.{detailOf}
 use Rattle.lent.specs.declared.Written.{Written}
 use Rattle.lent.specs.declared.Written.the-variants.{Length, Refused}
-use Rattle.lent.specs.Left.{Left, refusing, Leaves}
-use Rattle.arena.specs.Arena.{Arena}
+use Rattle.lent.specs.Left.{Left, Leaves}
 use Rattle.arena.specs.Tree.{Tree, Trees, bitVec, numeral, string, symbol, app, nil, cons, nodes, nodesOf, text as treeText, texts as treeTexts, mostNodes, mostText}
 use Rattle.order.specs.Every.{Every, none as no-more, also}
 use Rattle.order.proofs.Everies.{every-append}
@@ -24,21 +23,21 @@ use Rattle.tables.specs.Find.{variableRow as variableFound, functionRow as func
 use Rattle.tables.specs.Layout.{Lent, count, variableAt, functionAt, tablesOf}
 use Rattle.tables.specs.Rules.{lawful}
 use Rattle.tables.specs.Sort.{Variable, Function, Tables}
-use Rattle.sorts.specs.Result.{Result, ok, refused, _>>=_, unless, found}
+use Rattle.sorts.specs.Result.{Result, ok, refused, found}
 use Rattle.sorts.specs.Sort.{readSort, levels}
 use Rattle.values.specs.Value.{Value}
-use Rattle.literals.specs.Literal.{Lit, read}
+use Rattle.literals.specs.Literal.{read}
 use Rattle.meaning.proofs.Plain.{Plain, plain-then, plain-unless, plain-found, sort-plain, read-plain}
 use Rattle.meaning.proofs.Results.{refuses, ok-same, went}
 use Rattle.commands.specs.Command.{Command, variable, function, misshapen, command, Chain, default, arm, chain, tests, key}
-use Rattle.model.specs.Model.{Table, Definition, isVariable, isFunction, orElse, isBool, variableIn, functionIn, lastVariable, lastFunction, readChain, readTests, bodyBy, readBody, variableValue, functionTable, onRow, readCommand, readCommands, readModel}
-use Rattle.model.specs.Listing.{variableLines, functionLines, variablesFrom, functionsFrom, variableCount, functionCount, rendered, listing, need}
+use Rattle.model.specs.Model.{Table, Definition, isVariable, isFunction, orElse, isBool, variableIn, functionIn, lastVariable, lastFunction, readChain, readTests, bodyBy, variableValue, functionTable, onRow, readCommand, readCommands, readModel}
+use Rattle.model.specs.Listing.{variableLines, functionLines, variablesFrom, functionsFrom, variableCount, functionCount, listing, need}
 use Rattle.definitions.specs.Measure.{valueSize, tableSize}
 use Rattle.walk.specs.Noted.{size}
 use Rattle.walk.proofs.Sizes.{tree-given}
 use Rattle.listing.specs.Lists.{left, Lists, bad-table, bad-arena, walked}
 use Rattle.listing.specs.Lines.{header}
-use Rattle.listing.proofs.Rows.{texts, sums, length-texts, variableRow, functionRow, variables-are, functions-are, few-variables, few-functions}
+use Rattle.listing.proofs.Rows.{sums, length-texts, variableRow, functionRow, variables-are, functions-are, few-variables, few-functions}
 use Rattle.listing.proofs.Sizes.{header-small, length-variable, length-function, variable-most, function-most}
 use Rattle.listing.proofs.Wholes.{parts, fits, short, passes-rules}
 

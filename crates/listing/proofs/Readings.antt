@@ -5,7 +5,6 @@ use mathlib.Core.List.{List, [], _∷_}
 use mathlib.Core.Option.{Option, none, some}
 use Prim.Native.Nat.{ℕ}
 use native.Mathlib.Omega.{arith}
-use Rattle.ground.specs.Lists.{at}
 use Rattle.refusals.specs.declared.Refusal.the-variants.{UnmatchedType}
 use Rattle.arena.specs.Tree.{Tree}
 use Rattle.tables.specs.Find.{variableRow, functionRow}

@@ -1,33 +1,18 @@
 -- The literal decoder and the record walk: one law for each way out.
 -- Assumes nothing.
 use mathlib.Core.Path.{_≡_, refl, sym, ap, _∙_, subst}
-use mathlib.Core.Bool.{Bool, true, false, cond}
-use mathlib.Core.List.{List, [], _∷_}
-use mathlib.Core.Option.{Option, none, some}
-use Prim.Native.Nat.{ℕ, zero, suc, min, _+_, _-_, _≤_, _<_}
+use mathlib.Core.List.{List}
+use Prim.Native.Nat.{ℕ, zero, suc, _-_, _<_}
 use native.Mathlib.Omega.{arith}
-use lib.Dec.{eqb}
-use lib.ListN.{length, getD, take, drop}
-use Rattle.refusals.specs.declared.Refusal.{Refusal}
-use Rattle.refusals.specs.declared.Refusal.the-variants.{TooNested, UnmatchedFieldType}
-use Rattle.decimals.specs.Decimal.{digitCount}
-use Rattle.arena.specs.Node.{afterAt}
-use Rattle.arena.specs.Tree.{Tree, Trees, nil, cons}
-use Rattle.tables.specs.Layout.{Lent, part, tablesOf}
-use Rattle.tables.specs.Sort.{Tables}
-use Rattle.shapes.specs.Shows.{Standing, StandingAll}
-use Rattle.shapes.proofs.Stood.{first-of, others-of}
-use Rattle.sorts.specs.Result.{Result, ok, refused, _>>=_, unless}
-use Rattle.values.specs.Value.{Values, vRecord, vNil, vCons}
-use Rattle.values.proofs.Lengths.{size, length-record}
+use Rattle.refusals.specs.declared.Refusal.the-variants.{TooNested}
+use Rattle.tables.specs.Layout.{Lent, tablesOf}
+use Rattle.sorts.specs.Result.{Result}
 use Rattle.literals.specs.declared.answer.Literal.{Literal}
-use Rattle.literals.specs.declared.decode.Field.{Field}
 use Rattle.literals.specs.declared.form.Expected.{Expected}
 use Rattle.literals.specs.declared.form.Then.{Then}
 use Rattle.literals.specs.declared.plan.Plan.{Plan}
-use Rattle.literals.specs.Literal.{Lit, lit, read, fieldsOf, unionLit}
-use Rattle.literals.specs.Answer.{capped, need, answer}
-use Rattle.literals.specs.Field.{fieldAnswer, recordNeed}
+use Rattle.literals.specs.Literal.{Lit, read}
+use Rattle.literals.specs.Answer.{answer}
 use Rattle.literals.specs.Parts.{expectedOf, Finishes, UnionOf}
 use Rattle.literals.specs.Plan.{Means, Given, PlansAt, DecodesAt, FieldsAt}
 

@@ -1,45 +1,41 @@
 -- (NAME ..): an entity's literal, a record's, or none.
 -- Assumes nothing.
 use mathlib.Core.Path.{_≡_, refl, sym, ap, _∙_, subst}
-use mathlib.Core.Bool.{Bool, true, false, cond, true≢false}
+use mathlib.Core.Bool.{Bool, true, false, true≢false}
 use mathlib.Core.List.{List, [], _∷_}
 use mathlib.Core.Option.{Option, none, some}
-use Prim.Native.Nat.{ℕ, suc, min, _+_, _*_, _-_}
+use Prim.Native.Nat.{ℕ, suc, _+_, _*_, _-_}
 use native.Mathlib.Omega.{arith}
-use lib.Dec.{eqb}
 use lib.ListN.{length}
-use borrow.Author.Tests.{eq-eqb, ne-eqb}
 use Rattle.ground.specs.Lists.{at}
-use Rattle.refusals.specs.declared.Refusal.{Refusal}
 use Rattle.refusals.specs.declared.Refusal.the-variants.{UnknownLiteral, UnmatchedRecordType}
 use Rattle.decimals.specs.Decimal.{digitCount}
 use Rattle.arena.specs.declared.node.Node.{Node}
-use Rattle.arena.specs.declared.node.Node.the-variants.{BitVec, Numeral, String, Symbol, App, NoNode}
+use Rattle.arena.specs.declared.node.Node.the-variants.{BitVec, String}
 use Rattle.arena.specs.Node.{nodeAt}
 use Rattle.arena.specs.Tree.{Tree, Trees, bitVec, numeral, string, symbol, app, nil, cons, count}
 use Rattle.tables.specs.declared.find.Found.{Found}
 use Rattle.tables.specs.declared.row.Range.{Range}
 use Rattle.tables.specs.declared.sort.SortRow.{SortRow}
 use Rattle.tables.specs.Find.{found as asFound, namedSort}
-use Rattle.tables.specs.Layout.{Lent, part, nameAt, tablesOf}
+use Rattle.tables.specs.Layout.{Lent, part, tablesOf}
 use Rattle.tables.specs.Lookup.{FindsNamed}
 use Rattle.tables.specs.Range.{Clamps}
-use Rattle.tables.specs.Sort.{Sort, Tables, entityOf, recordOf}
+use Rattle.tables.specs.Sort.{Sort}
 use Rattle.tables.specs.View.{sortRowAt, meant}
 use Rattle.tables.proofs.Ranges.{length-clamped}
 use Rattle.tables.proofs.Sorts.{row-meant}
-use Rattle.shapes.specs.Shows.{Standing, StandingAll}
-use Rattle.shapes.proofs.Looks.{kind, kindOf, kinds}
+use Rattle.shapes.specs.Shows.{StandingAll}
+use Rattle.shapes.proofs.Looks.{kind, kinds}
 use Rattle.shapes.proofs.Stood.{first-of}
 use Rattle.sorts.specs.Result.{Result, ok, refused, _>>=_, unless, found}
 use Rattle.sorts.specs.Sort.{readSort}
-use Rattle.values.specs.Value.{vRecord, vEntity}
+use Rattle.values.specs.Value.{vRecord}
 use Rattle.values.proofs.Lengths.{length-entity}
 use Rattle.literals.specs.declared.answer.Literal.{Literal}
-use Rattle.literals.specs.declared.form.Expected.{Expected}
 use Rattle.literals.specs.declared.plan.Plan.{Plan}
-use Rattle.literals.specs.Literal.{Lit, lit, read, fieldsOf, sameCount, entityLit, madeRow, madeLit}
-use Rattle.literals.specs.Answer.{capped, need, answer}
+use Rattle.literals.specs.Literal.{Lit, lit, read, fieldsOf, sameCount, madeRow}
+use Rattle.literals.specs.Answer.{capped, answer}
 use Rattle.literals.specs.Plan.{Means, EntityAt, RecordAs, PlansRow, PlansMade}
 
 -- an entity's: one argument, and that a string

@@ -1,7 +1,6 @@
 -- The plan of a literal: one law for each way out.
 -- Assumes nothing.
 use mathlib.Core.Path.{_≡_, refl, sym, ap, _∙_, subst}
-use mathlib.Core.Bool.{Bool, true, false, true≢false}
 use mathlib.Core.List.{List}
 use mathlib.Core.Option.{Option, none, some}
 use Prim.Native.Nat.{ℕ, suc, _+_, _*_, _%_, _/_, _^_}
@@ -14,19 +13,18 @@ use Rattle.arena.specs.declared.node.Node.{Node}
 use Rattle.arena.specs.declared.node.Node.the-variants.{BitVec, Numeral, String, Symbol, App, NoNode}
 use Rattle.arena.specs.Node.{nodeAt}
 use Rattle.arena.specs.Text.{textAt}
-use Rattle.arena.specs.Tree.{Tree, Trees, bitVec, numeral, string, symbol, app}
+use Rattle.arena.specs.Tree.{Tree, bitVec, numeral, string, symbol, app}
 use Rattle.tables.specs.declared.find.Found.{Found}
 use Rattle.tables.specs.Find.{found as asFound}
 use Rattle.tables.specs.Layout.{Lent, tablesOf}
-use Rattle.tables.specs.Sort.{Sort, ext, bitVec as bitVecSort, Tables}
+use Rattle.tables.specs.Sort.{ext, bitVec as bitVecSort, Tables}
 use Rattle.values.specs.Value.{vExt, vBits}
 use Rattle.words.specs.Extension.{signed}
-use Rattle.shapes.specs.declared.look.Word.{Word}
 use Rattle.shapes.specs.declared.shape.Found.{Found as Arm}
 use Rattle.shapes.specs.declared.shape.Kind.{Kind}
 use Rattle.shapes.specs.Shape.{Shape, shape}
-use Rattle.shapes.specs.Shows.{Standing, StandingAll, Shows, ShapeAt, extOf}
-use Rattle.shapes.proofs.Looks.{kind, kindOf, kinds, symbol-there}
+use Rattle.shapes.specs.Shows.{Standing, Shows, ShapeAt, extOf}
+use Rattle.shapes.proofs.Looks.{kind, kinds, symbol-there}
 use Rattle.sorts.specs.declared.sort.Sorted.{Sorted}
 use Rattle.sorts.specs.Reads.{sorted, ReadsSort}
 use Rattle.sorts.specs.Result.{Result, ok, refused, _>>=_}
@@ -38,10 +36,10 @@ use Rattle.literals.specs.declared.form.Form.{Form}
 use Rattle.literals.specs.declared.form.Inside.{Inside}
 use Rattle.literals.specs.declared.form.Then.{Then}
 use Rattle.literals.specs.declared.plan.Plan.{Plan}
-use Rattle.literals.specs.Literal.{Lit, read, optionIn, expectIn, litOf, wordLit, appLit}
+use Rattle.literals.specs.Literal.{Lit, read, optionIn, litOf, wordLit, appLit}
 use Rattle.literals.specs.Answer.{answer}
-use Rattle.literals.specs.Parts.{expectedOf, insideOf, thenLit, InsideRow, Expects, BareOf, ExtensionOf, IndexedOf, BitsOf, StringOf, WordOf}
-use Rattle.literals.specs.Plan.{Means, Given, thenOf, PlansInside, PlansAsSome, PlansMade, PlansApp, PlansAt}
+use Rattle.literals.specs.Parts.{expectedOf, thenLit, InsideRow, Expects, BareOf, ExtensionOf, IndexedOf, BitsOf, StringOf, WordOf}
+use Rattle.literals.specs.Plan.{Means, thenOf, PlansInside, PlansAsSome, PlansMade, PlansApp, PlansAt}
 
 -- a result that is another, with the plan of that
 means-as : (T : Tables) (fields ws ts : List ℕ) (expected : Expected) (below : ℕ) (p : Plan) (m k : Result Lit) → m ≡ k → Means T fields ws ts expected below p k → Means T fields ws ts expected below p m

@@ -1,15 +1,15 @@
 -- The record walk: what is left of the fields, and the values before them.
 -- Assumes nothing.
 use mathlib.Core.Path.{_≡_, refl, sym, ap, _∙_, subst}
-use mathlib.Core.Bool.{Bool, true, false, cond}
+use mathlib.Core.Bool.{Bool, false, cond}
 use mathlib.Core.List.{List, [], _∷_}
-use mathlib.Core.Option.{Option, none, some}
+use mathlib.Core.Option.{Option, some}
 use Prim.Native.Nat.{ℕ, suc, min, _+_, _-_, _≤_, _<_}
 use native.Mathlib.Omega.{arith}
 use lib.Dec.{eqb}
-use lib.ListN.{length, getD, take, drop}
+use lib.ListN.{length, getD, drop}
 use lib.Seq.{drop-cons, drop-length, getD-take, getD-drop}
-use borrow.Author.Tests.{eq-eqb, ne-eqb, eqb-true, eqb-false}
+use borrow.Author.Tests.{eq-eqb, eqb-true}
 use Rattle.ground.proofs.Tests.{by-test}
 use Rattle.refusals.specs.declared.Refusal.{Refusal}
 use Rattle.refusals.specs.declared.Refusal.the-variants.{UnmatchedFieldType}
@@ -17,8 +17,7 @@ use Rattle.decimals.specs.Decimal.{digitCount}
 use Rattle.arena.specs.Node.{afterAt}
 use Rattle.arena.specs.Tree.{Tree, Trees, nil, cons, count}
 use Rattle.tables.specs.Layout.{Lent, part, tablesOf}
-use Rattle.tables.specs.Sort.{Tables}
-use Rattle.shapes.specs.Shows.{Standing, StandingAll}
+use Rattle.shapes.specs.Shows.{StandingAll}
 use Rattle.shapes.proofs.Stood.{first-of, others-of}
 use Rattle.sorts.specs.Result.{Result, ok, refused, _>>=_, unless}
 use Rattle.values.specs.Text.{text}

@@ -2,16 +2,14 @@
 -- kept, and whether it is a set; or the refusal.
 use mathlib.Core.Path.{_≡_}
 use mathlib.Core.Bool.{Bool, true, false}
-use mathlib.Core.List.{List, [], _∷_}
+use mathlib.Core.List.{List}
 use mathlib.Core.Option.{Option, none, some}
 use Prim.Native.Nat.{ℕ, min}
 use lib.ListN.{length}
 use Rattle.tables.specs.declared.sort.Wanted.{Wanted}
 use Rattle.tables.specs.Layout.{Lent, tablesOf}
 use Rattle.tables.specs.View.{sortWanted}
-use Rattle.sorts.specs.declared.sort.Sorted.{Sorted}
-use Rattle.sorts.specs.Reads.{sorted}
-use Rattle.sorts.specs.Result.{Result, ok, refused, _>>=_}
+use Rattle.sorts.specs.Result.{Result, ok, refused}
 use Rattle.values.specs.Text.{text}
 use Rattle.values.specs.Value.{Value}
 use Rattle.literals.specs.declared.answer.Literal.{Literal}

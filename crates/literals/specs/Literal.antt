@@ -5,7 +5,6 @@ use mathlib.Core.Option.{Option, none, some}
 use Prim.Native.Nat.{ℕ, zero, suc, _%_, _^_}
 use lib.Dec.{leb, ltb, eqb}
 use Rattle.ground.specs.Lists.{at}
-use Rattle.refusals.specs.declared.Refusal.{Refusal}
 use Rattle.refusals.specs.declared.Refusal.the-variants.{IntegerOverflow, ZeroWidthBitVec, UnknownLiteral, UnmatchedType, UnmatchedFieldType, UnmatchedRecordType, InvalidOptionType, InvalidSetType, NotCovered, TooNested, SetUnionNonLiterals}
 use Rattle.words.specs.declared.digits.Parsed.{Parsed}
 use Rattle.words.specs.declared.digits.Radix.{Radix}

@@ -3,11 +3,10 @@ use mathlib.Core.Path.{_≡_}
 use mathlib.Core.Bool.{Bool, true, false}
 use mathlib.Core.List.{List}
 use mathlib.Core.Option.{Option, none, some}
-use Prim.Native.Nat.{ℕ, _+_, _*_, _^_}
+use Prim.Native.Nat.{ℕ}
 use lib.Dec.{eqb}
 use lib.ListN.{length}
 use Rattle.ground.specs.Lists.{at}
-use Rattle.refusals.specs.declared.Refusal.{Refusal}
 use Rattle.refusals.specs.declared.Refusal.the-variants.{UnknownLiteral, UnmatchedType, InvalidOptionType, InvalidSetType}
 use Rattle.tables.specs.declared.find.Found.{Found}
 use Rattle.tables.specs.declared.sort.Wanted.{Wanted}
@@ -28,7 +27,7 @@ use Rattle.literals.specs.declared.form.Form.{Form}
 use Rattle.literals.specs.declared.form.Expected.{Expected}
 use Rattle.literals.specs.declared.form.Inside.{Inside}
 use Rattle.literals.specs.declared.form.Then.{Then}
-use Rattle.literals.specs.Literal.{Lit, lit, optionIn, setIn, litOf, expectIn, noneLit, emptyLit, someLit, singletonLit, unionLit, indexedLit, widthLit, memberLit, wordLit}
+use Rattle.literals.specs.Literal.{Lit, optionIn, setIn, litOf, expectIn, noneLit, emptyLit, someLit, singletonLit, unionLit, indexedLit, widthLit, memberLit, wordLit}
 use Rattle.literals.specs.Answer.{answer, need}
 
 abbrev pub insideOf : Form → Option Sort → Option ℕ

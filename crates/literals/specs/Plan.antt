@@ -8,7 +8,7 @@ use Rattle.ground.specs.Lists.{at}
 use Rattle.refusals.specs.declared.Refusal.the-variants.{UnmatchedRecordType}
 use Rattle.arena.specs.Tree.{Tree, Trees, app}
 use Rattle.tables.specs.Layout.{Lent, part, tablesOf}
-use Rattle.tables.specs.Sort.{Sort, Tables}
+use Rattle.tables.specs.Sort.{Tables}
 use Rattle.shapes.specs.Shape.{shape}
 use Rattle.shapes.specs.Shows.{Standing, StandingAll}
 use Rattle.sorts.specs.declared.sort.Sorted.{Sorted}

@@ -2,7 +2,6 @@
 use mathlib.Core.Path.{_≡_, refl}
 use mathlib.Core.List.{List, [], _∷_, map}
 use mathlib.Core.Option.{none, some}
-use Prim.Native.Nat.{ℕ}
 use Prim.Native.String.{String}
 use Rattle.ground.specs.Bytes.{bytes}
 use Rattle.ground.specs.Lists.{find, at}

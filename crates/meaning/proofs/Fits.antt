@@ -17,7 +17,7 @@ use Rattle.words.specs.Radix.{baseOf}
 use Rattle.words.specs.Run.{number, digits, someByte, parsed}
 use Rattle.words.specs.Extension.{signed}
 use Rattle.words.proofs.Signs.{signed-of}
-use Rattle.arena.specs.Tree.{Tree, Trees, Sound}
+use Rattle.arena.specs.Tree.{Tree, Trees}
 use Rattle.tables.specs.Sort.{bitVec, Tables}
 use Rattle.tables.specs.Rules.{widthLimit, lawful}
 use Rattle.tables.proofs.Lawful.{Lawful, lawful-parts, sort-right}
@@ -30,7 +30,6 @@ use Rattle.literals.specs.Literal.{Lit, unsigned, numbered, read}
 use Rattle.meaning.specs.Octets.{Octets, OctetsAll}
 use Rattle.meaning.proofs.Results.{refuses, ok-same}
 use Rattle.meaning.proofs.Readings.{FieldReadings, f-nil, f-cons, Reading, r-bits, r-string, r-true, r-false, r-member, r-none, r-asSome, r-some, r-empty, r-singleton, r-union, r-extension, r-indexed, r-entity, r-record, reading}
-use Rattle.meaning.proofs.Sound.{sound-octets}
 use Rattle.meaning.proofs.Insides.{members-fit}
 use Rattle.meaning.proofs.Members.{member-kept}
 

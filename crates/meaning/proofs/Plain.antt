@@ -8,12 +8,11 @@ use Prim.Native.Nat.{ℕ, zero, suc, _%_, _^_}
 use lib.Dec.{leb, ltb, eqb}
 use Rattle.ground.specs.Lists.{at}
 use Rattle.refusals.specs.declared.Refusal.{Refusal}
-use Rattle.refusals.specs.declared.Refusal.the-variants.{ParseIntError, IntegerOverflow, ZeroWidthBitVec, UnknownType, UnknownLiteral, UnmatchedType, UnmatchedFieldType, UnmatchedRecordType, InvalidOptionType, InvalidSetType, NotCovered, NoSortRow, TooNested, SetUnionNonLiterals}
+use Rattle.refusals.specs.declared.Refusal.the-variants.{ParseIntError, IntegerOverflow, ZeroWidthBitVec, UnknownType, UnknownLiteral, UnmatchedType, UnmatchedFieldType, UnmatchedRecordType, InvalidOptionType, InvalidSetType, NoSortRow, SetUnionNonLiterals}
 use Rattle.refusals.specs.Number.{detailOf}
 use Rattle.words.specs.declared.digits.Parsed.{Parsed}
 use Rattle.words.specs.declared.pair.Pair.{Pair}
 use Rattle.words.specs.declared.digits.Radix.{Radix}
-use Rattle.words.specs.Extension.{signed}
 use Rattle.words.specs.Pair.{pairOf}
 use Rattle.words.specs.Radix.{baseOf}
 use Rattle.words.specs.Run.{number, digits, someByte, parsed}
@@ -23,9 +22,9 @@ use Rattle.tables.specs.Sort.{decimal, datetime, duration, Sort, bool, string, 
 use Rattle.shapes.specs.Shape.{is, Shape, operator, asNone, asSome, someOf, asEmpty, singleton, union, extension, indexed, made, other, shape}
 use Rattle.shapes.specs.SortShape.{SortShape, word, widthOf, optionOf as optionShape, setOf as setShape, noSort, sortShape}
 use Rattle.sorts.specs.Result.{Result, ok, refused, _>>=_, unless, found}
-use Rattle.sorts.specs.Sort.{rowOf, sortWord, sortWidth, sortOf, readSort}
-use Rattle.values.specs.Value.{Value, vBool, vString, vExt, vBits}
-use Rattle.literals.specs.Literal.{Lit, optionIn, setIn, unsigned, numbered, entityLit, sameCount, fieldsOf, held, unionLit, litOf, expectIn, noneLit, emptyLit, someLit, singletonLit, widthLit, indexedLit, madeRow, madeLit, appLit, memberLit, atRow, wordLit, read}
+use Rattle.sorts.specs.Sort.{rowOf, sortWord, sortOf, readSort}
+use Rattle.values.specs.Value.{Value, vBool, vString, vBits}
+use Rattle.literals.specs.Literal.{Lit, optionIn, setIn, unsigned, numbered, entityLit, sameCount, fieldsOf, held, unionLit, litOf, expectIn, someLit, widthLit, madeRow, appLit, memberLit, atRow, read}
 
 abbrev pub Plain : {A : Type 0} → Result A → Type 0
 Plain (ok a) = Unit {0}

@@ -1,14 +1,14 @@
 -- What is skipped is not read: models that differ in nothing else give the same definitions, or the same refusal, and so the same listing.
 -- Assumes nothing.
 use mathlib.Core.Path.{_≡_, refl, sym, ap, ap₂, _∙_}
-use mathlib.Core.List.{List, [], _∷_, _++_}
-use mathlib.Core.Option.{Option, none, some}
+use mathlib.Core.List.{List, [], _++_}
+use mathlib.Core.Option.{none}
 use Prim.Native.Nat.{ℕ}
-use Rattle.arena.specs.Tree.{Tree, Trees, app, nil, cons}
+use Rattle.arena.specs.Tree.{Tree, Trees, app}
 use Rattle.tables.specs.Find.{variableRow, functionRow}
 use Rattle.tables.specs.Sort.{Tables}
 use Rattle.sorts.specs.Result.{Result, ok, refused, _>>=_}
-use Rattle.commands.specs.Command.{Command, variable, function, command}
+use Rattle.commands.specs.Command.{variable, function, command}
 use Rattle.model.specs.Model.{Definition, readCommand, readCommands, readModel}
 use Rattle.model.specs.Listing.{listing}
 use Rattle.model.specs.Skipped.{AlikeCommand, same, no-variable, no-function, AlikeCommands, no-more, one-more}

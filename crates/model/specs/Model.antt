@@ -5,7 +5,6 @@ use mathlib.Core.Option.{Option, none, some}
 use Prim.Native.Nat.{ℕ}
 use lib.Dec.{eqb}
 use Rattle.ground.specs.Lists.{at}
-use Rattle.refusals.specs.declared.Refusal.{Refusal}
 use Rattle.refusals.specs.declared.Refusal.the-variants.{UnexpectedModel, UnmatchedType, UnexpectedForm}
 use Rattle.arena.specs.Tree.{Tree, Trees, nil, cons}
 use Rattle.tables.specs.Find.{variableRow, functionRow}

@@ -1,14 +1,13 @@
 -- Document 01, "The listing" and "The model walk": the sample, its tables, its model and its listing; what is replaced and what is skipped.
 use mathlib.Core.Path.{_≡_, refl}
-use mathlib.Core.Bool.{true}
-use mathlib.Core.List.{List, [], _∷_, map}
+use mathlib.Core.List.{List, [], _∷_}
 use Prim.Native.Nat.{ℕ, _-_, _^_}
 use Rattle.ground.specs.Bytes.{bytes}
 use Rattle.ground.specs.Lists.{joined, find, at}
 use Rattle.refusals.specs.declared.Refusal.the-variants.{UnexpectedModel}
 use Rattle.arena.specs.Text.{sameText}
 use Rattle.arena.specs.Tree.{Tree, bitVec, numeral}
-use Rattle.decimals.specs.Decimal.{decimal, lastDigits, digitCountWithin, signedDecimal}
+use Rattle.decimals.specs.Decimal.{decimal, lastDigits, digitCountWithin}
 use Rattle.order.specs.Order.{before, insert, arranged}
 use Rattle.tables.specs.Find.{sortRow, namedSort, variableRow, functionRow, memberRow}
 use Rattle.tables.specs.Sort.{bool, bitVec as bits, optionOf, Tables}
@@ -16,8 +15,8 @@ use Rattle.shapes.specs.Shape.{shape}
 use Rattle.shapes.specs.SortShape.{sortShape}
 use Rattle.sorts.specs.Result.{Result, ok, refused, _>>=_, unless}
 use Rattle.sorts.specs.Sort.{readSort}
-use Rattle.values.specs.Normal.{normal, normals, arrangedValues}
-use Rattle.values.specs.Text.{text, hex, hexText, hexDigit}
+use Rattle.values.specs.Normal.{normal, arrangedValues}
+use Rattle.values.specs.Text.{text, hex, hexDigit}
 use Rattle.literals.specs.Literal.{read}
 use Rattle.literals.specs.Samples.{word, of}
 use Rattle.commands.specs.Command.{command, chain, tests, key}

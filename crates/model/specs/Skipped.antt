@@ -3,7 +3,7 @@ use mathlib.Core.Path.{_≡_}
 use mathlib.Core.List.{List}
 use mathlib.Core.Option.{none}
 use Prim.Native.Nat.{ℕ}
-use Rattle.arena.specs.Tree.{Tree, Trees, app, nil, cons}
+use Rattle.arena.specs.Tree.{Tree, Trees, nil, cons}
 use Rattle.tables.specs.Find.{variableRow, functionRow}
 use Rattle.tables.specs.Sort.{Tables}
 use Rattle.commands.specs.Command.{variable, function, command}

@@ -4,6 +4,7 @@ use mathlib.Core.Path.{_≡_, refl, ap, sym, _∙_, subst}
 use mathlib.Core.Bool.{Bool, true, false, cond}
 use mathlib.Core.List.{List, [], _∷_, _++_}
 use Prim.Native.Nat.{ℕ}
+use Rattle.ground.proofs.Tests.{by-cond}
 use Rattle.order.specs.Order.{before, insert, arranged}
 use Rattle.order.specs.Merge.{inserts}
 use Rattle.order.proofs.Befores.{before-irreflexive, before-transitive, before-asymmetric, by-order-of}
@@ -55,12 +56,8 @@ module _ {A : Type 0} (key : A → List ℕ) (last : Bool) where
   by-insert P x y ys here kept put past =
       by-order-of (key x) (key y)
       (λ e. subst P (sym (insert-here x y ys e)) (here e))
-      (λ e. subst P (sym (insert-same x y ys e)) (choice last (kept e) (put e)))
+      (λ e. subst P (sym (insert-same x y ys e)) (by-cond P last (y ∷ ys) (x ∷ ys) (λ _. kept e) (λ _. put e)))
       (λ e. subst P (sym (insert-past x y ys e)) (past e))
-    where
-      choice : (t : Bool) → P (y ∷ ys) → P (x ∷ ys) → P (cond t (y ∷ ys) (x ∷ ys))
-      choice true p q = p
-      choice false p q = q
 
   -- of two with one key, put in one after the other, one stays
   pub insert-again : (a b : A) (zs : List A) → key a ≡ key b → insert key last a (insert key last b zs) ≡ cond last (insert key last b zs) (insert key last a zs)

@@ -1,18 +1,16 @@
 -- The answer from the first pass is the one that the tree asks for, and the second pass leaves what it asks for.
 -- Assumes nothing.
 use mathlib.Core.Path.{_≡_, refl, sym, ap, _∙_, subst}
-use mathlib.Core.Bool.{Bool, true, false, cond}
 use mathlib.Core.List.{List, [], _++_}
-use Prim.Native.Nat.{ℕ, _*_, _/_, _≤_, _<_}
+use Prim.Native.Nat.{ℕ, _/_, _≤_, _<_}
 use native.Mathlib.Omega.{arith}
-use lib.Dec.{leb, ltb}
 use lib.ListN.{length, drop, replicate}
 use borrow.Author.Tests.{le-leb, lt-leb, lt-ltb, le-ltb}
 use Rattle.ground.proofs.Tests.{by-order}
 use Rattle.refusals.specs.declared.Refusal.{Refusal}
 use Rattle.refusals.specs.declared.Refusal.the-variants.{InputTooLong, NodeRoom, TextRoom, DepthRoom}
 use Rattle.arena.specs.Tree.{Tree, nodes, text, depth}
-use Rattle.arena.specs.Layout.{stride, words}
+use Rattle.arena.specs.Layout.{stride}
 use Rattle.brackets.specs.declared.scan.Phase.{Phase}
 use Rattle.brackets.specs.declared.scan.Phase.the-variants.{Going, Done, Unclosed, Trailing}
 use Rattle.brackets.specs.declared.scan.Scan.{Scan}

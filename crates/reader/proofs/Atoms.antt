@@ -2,12 +2,11 @@
 -- Assumes nothing.
 use mathlib.Core.Path.{_≡_, refl, sym, ap, _∙_, subst}
 use mathlib.Core.Bool.{Bool, true, false, cond, _&&_}
-use mathlib.Core.List.{List, []}
-use Prim.Native.Nat.{ℕ, min, _+_, _-_, _*_, _^_, _≤_, _<_}
+use mathlib.Core.List.{List}
+use Prim.Native.Nat.{ℕ, _-_, _*_, _^_, _≤_, _<_}
 use native.Mathlib.Omega.{arith}
 use lib.Dec.{ltb}
 use lib.ListN.{length, take, drop, length-take, length-drop}
-use lib.Seq.{sets}
 use borrow.Rule.Slice.PartMut.{putMid}
 use Rattle.refusals.specs.declared.Refusal.{Refusal}
 use Rattle.lent.specs.Put.{Fronts}
@@ -29,7 +28,7 @@ use Rattle.arena.specs.Layout.{nodeWords, bitVecWords, numeralWords}
 use Rattle.brackets.specs.declared.scan.Scan.{Scan}
 use Rattle.brackets.specs.Token.{Atom, quoted, name, atom, atomText, atomWords}
 use Rattle.tokens.specs.declared.lexeme.Kind.the-variants.{Quoted, Name}
-use Rattle.tokens.specs.Piece.{Piece, space, token, wrong, fromParsed, bitsOf, pieceOf}
+use Rattle.tokens.specs.Piece.{Piece, token, wrong, fromParsed, bitsOf, pieceOf}
 use Rattle.reader.specs.Write.{FineNode, Noded, FineAtom, FineNumber, Fine, Numbered, Texted}
 
 -- a number that a run of digits gave is the pair of its value

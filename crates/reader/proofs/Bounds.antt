@@ -20,7 +20,7 @@ use Rattle.reader.specs.declared.tally.Tally.the-variants.{Scanned, Faul
 use Rattle.reader.specs.Tally.{turned, tallied}
 use Rattle.reader.specs.Read.{parse}
 use Rattle.reader.proofs.Sofar.{Sofar, sofar-start, sofar-step, sofar-fault, sofar-end, piece}
-use Rattle.reader.proofs.Holds.{Found, found, parse-is}
+use Rattle.reader.proofs.Holds.{found, parse-is}
 
 abbrev Small : List ℕ → Tally → Type 0
 Small s (Scanned d) = (d .nodes ≤ length s) × (d .text ≤ 2 * length s)

@@ -1,7 +1,7 @@
 -- The second pass up to a place: the walk so far, laid in the lent buffers, and the tree that it will be.
 -- Assumes nothing.
 use mathlib.Core.Path.{_≡_, refl, sym, ap, _∙_, subst}
-use mathlib.Core.List.{List, [], _∷_, _++_}
+use mathlib.Core.List.{List, [], _∷_}
 use Prim.Native.Nat.{ℕ, _+_, _*_, _-_, _^_, _≤_, _<_}
 use native.Mathlib.Omega.{arith}
 use lib.ListN.{length, take, drop, drop-of-length-le, take-append-drop, length-take}
@@ -11,15 +11,15 @@ use Rattle.arena.specs.Layout.{stride, words}
 use Rattle.brackets.specs.declared.scan.Scan.{Scan}
 use Rattle.brackets.specs.Token.{Token, opens, closes, atom, atomText, atomWords}
 use Rattle.brackets.specs.Count.{start}
-use Rattle.brackets.specs.Put.{putN, putT, putS, FineOpen, FineClose, FineLeaf}
-use Rattle.brackets.specs.Walk.{Walk, going, done, fault, walk, step, Outcome, tree, refused, finish}
+use Rattle.brackets.specs.Put.{FineOpen, FineClose, FineLeaf}
+use Rattle.brackets.specs.Walk.{Walk, going, done, fault, walk, step, tree, finish}
 use Rattle.brackets.proofs.Agree.{Agrees, agree-step}
 use Rattle.brackets.proofs.Upto.{Upto, upto}
 use Rattle.brackets.proofs.Next.{Laid, Room, fine-open, fine-close, fine-leaf, room-text, laid-on, Kept, kept-none, kept-on}
 use Rattle.tokens.specs.Past.{Past}
 use Rattle.tokens.specs.declared.lexeme.Lexeme.{Lexeme}
 use Rattle.tokens.specs.Lexeme.{lexemeAt}
-use Rattle.tokens.specs.Piece.{Piece, space, token, wrong, pieceOf, pieceAt, Lexed, ok, bad, emit, lex}
+use Rattle.tokens.specs.Piece.{Piece, space, token, wrong, pieceOf, Lexed, ok, bad, emit, lex}
 use Rattle.tokens.proofs.Lexes.{lex-nil, found-piece, lex-at, found-within, found-there}
 use Rattle.reader.specs.declared.tally.Tally.the-variants.{Scanned}
 use Rattle.reader.specs.Tally.{turned, Ample}

@@ -9,3 +9,4 @@ pub mod Bounds
 pub mod Signs
 pub mod Sounds
 pub mod Excluded
+pub mod Faults

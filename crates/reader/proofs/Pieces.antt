@@ -1,6 +1,6 @@
 -- One piece of the second pass, by its kind.
 -- Assumes nothing.
-use mathlib.Core.Path.{_≡_, refl, sym, ap, _∙_, subst}
+use mathlib.Core.Path.{_≡_, refl, sym, ap, subst}
 use mathlib.Core.Bool.{Bool, true, false, cond}
 use mathlib.Core.List.{List, []}
 use Prim.Native.Nat.{ℕ, _*_}
@@ -17,10 +17,10 @@ use Rattle.utf8.specs.Octets.{utf8}
 use Rattle.strings.specs.Points.{points}
 use Rattle.strings.specs.Text.{anySurrogate}
 use Rattle.brackets.specs.declared.scan.Scan.{Scan}
-use Rattle.brackets.specs.Token.{Atom, bits, number, Token, opens, closes, atom, atomText}
+use Rattle.brackets.specs.Token.{Atom, bits, number, atom, atomText}
 use Rattle.tokens.specs.declared.lexeme.Kind.{Kind}
 use Rattle.tokens.specs.declared.lexeme.Kind.the-variants as K
-use Rattle.tokens.specs.Piece.{Piece, space, token, wrong, fromParsed, bitsOf, pieceOf}
+use Rattle.tokens.specs.Piece.{token, wrong, fromParsed, bitsOf, pieceOf}
 use Rattle.reader.specs.Write.{FineNumber, Fine, pieceS, Numbered, Texted, OpenedBy, ClosedBy, Pieced}
 
 number-needs : (c : Scan) (p : Parsed) (make : ℕ → Atom) (N T S : List ℕ) → Fine c (fromParsed p make) N T S → FineNumber c (fromParsed p make) N S

@@ -1,19 +1,18 @@
 -- A run of digits as a bit vector: its number fits its width, and its sign extension has it as its low bits.
 -- Assumes nothing.
-use mathlib.Core.Path.{_≡_, refl, sym, ap, _∙_, subst}
-use mathlib.Core.Bool.{Bool, true, false, cond, _&&_}
+use mathlib.Core.Path.{_≡_, sym, ap, _∙_, subst}
+use mathlib.Core.Bool.{true}
 use mathlib.Core.List.{List, [], _∷_}
-use Prim.Native.Nat.{ℕ, suc, _+_, _-_, _*_, _%_, _^_, _≤_, _<_}
+use Prim.Native.Nat.{ℕ, _+_, _-_, _*_, _%_, _^_, _≤_, _<_}
 use native.Mathlib.Omega.{arith}
 use native.Mathlib.Nat.{mod-eq-of-lt, add-mul, one-mul}
-use lib.Dec.{leb, ltb}
 use lib.ListN.{length}
 use lib.Pow.{pow-pos, pow-mono, pow-add, low}
 use borrow.Author.Tests.{ltb-true}
+use Rattle.ground.specs.Lists.{all}
 use Rattle.ground.proofs.Tests.{by-order, by-test, both-left, both-right}
-use Rattle.words.specs.declared.digits.Radix.{Radix}
-use Rattle.words.specs.declared.digits.Radix.the-variants.{Binary, Decimal, Hexadecimal}
-use Rattle.words.specs.Radix.{baseOf, worth, isDigit}
+use Rattle.words.specs.declared.digits.Radix.the-variants.{Binary, Hexadecimal}
+use Rattle.words.specs.Radix.{worth, isDigit}
 use Rattle.words.specs.Run.{from, digits}
 use Rattle.words.specs.Extension.{negative, filled, extended}
 use Rattle.words.proofs.Extends.{extended-wide, extended-positive, extended-negative}
@@ -21,7 +20,7 @@ use Rattle.arena.specs.Tree.{BitVector, mostWidth}
 
 -- so many bits more hold one digit more
 pub binary-below : (p n : ℕ) (s : List ℕ) → n < 2 ^ p → digits Binary s ≡ true → from 2 n s < 2 ^ (p + 1 * length s)
-unfolding digits from
+unfolding all from
 binary-below p n [] h d = subst (λ (k : ℕ). n < 2 ^ k) (omega arith) h
 binary-below p n (b ∷ bs) h d =
     let v : worth b < 2 = ltb-true (worth b) 2 (both-left (isDigit Binary b) (digits Binary bs) d) in
@@ -30,7 +29,7 @@ binary-below p n (b ∷ bs) h d =
     (binary-below (p + 1) (n * 2 + worth b) bs (omega arith) (both-right (isDigit Binary b) (digits Binary bs) d))
 
 pub hexadecimal-below : (p n : ℕ) (s : List ℕ) → n < 2 ^ p → digits Hexadecimal s ≡ true → from 16 n s < 2 ^ (p + 4 * length s)
-unfolding digits from
+unfolding all from
 hexadecimal-below p n [] h d = subst (λ (k : ℕ). n < 2 ^ k) (omega arith) h
 hexadecimal-below p n (b ∷ bs) h d =
     let v : worth b < 16 = ltb-true (worth b) 16 (both-left (isDigit Hexadecimal b) (digits Hexadecimal bs) d) in
@@ -52,19 +51,16 @@ swap : (n m : ℕ) → n + m ≡ m + n
 swap n m = omega arith
 
 module _ (w n : ℕ) (some : 0 < w) (within : n < 2 ^ w) where
-  itself : n % 2 ^ w ≡ n
-  itself = mod-eq-of-lt within
-
   record Held : Type 0 where
     pub fits : extended w n < 2 ^ 128
     pub lows : extended w n % 2 ^ w ≡ n
 
   held-plain : n < 2 ^ 128 → n ≡ extended w n → Held
-  held-plain h e = record { fits = subst (λ (k : ℕ). k < 2 ^ 128) e h; lows = ap (λ (k : ℕ). k % 2 ^ w) (sym e) ∙ itself }
+  held-plain h e = record { fits = subst (λ (k : ℕ). k < 2 ^ 128) e h; lows = ap (λ (k : ℕ). k % 2 ^ w) (sym e) ∙ mod-eq-of-lt within }
 
   held-filled : w < 128 → filled 128 w n ≡ extended w n → Held
   held-filled h e =
-      let f : filled 128 w n ≡ n + (2 ^ 128 - 2 ^ w) = ap (λ (k : ℕ). k + (2 ^ 128 - 2 ^ w)) itself in
+      let f : filled 128 w n ≡ n + (2 ^ 128 - 2 ^ w) = ap (λ (k : ℕ). k + (2 ^ 128 - 2 ^ w)) (mod-eq-of-lt within) in
       let g : 2 ^ 128 ≡ 2 ^ (128 - w) * 2 ^ w = ap (λ (k : ℕ). 2 ^ k) (spared w h) ∙ pow-add 2 (128 - w) w in
       let m : 2 ^ 128 - 2 ^ w ≡ (2 ^ (128 - w) - 1) * 2 ^ w = ap (λ (k : ℕ). k - 2 ^ w) g ∙ less-one (2 ^ (128 - w)) (2 ^ w) (pow-pos (128 - w)) in
       record {

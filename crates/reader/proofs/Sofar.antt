@@ -1,9 +1,8 @@
 -- The first pass up to a place: numbers that stay small, and what is still to be counted.
 -- Assumes nothing.
 use mathlib.Core.Path.{_≡_, refl, sym, ap, _∙_, subst}
-use mathlib.Core.Bool.{Bool, true, false, cond}
-use mathlib.Core.List.{List, []}
-use Prim.Native.Nat.{ℕ, max, _+_, _-_, _*_, _≤_, _<_, _^_}
+use mathlib.Core.List.{List}
+use Prim.Native.Nat.{ℕ, _+_, _-_, _*_, _≤_, _<_}
 use native.Mathlib.Omega.{arith}
 use lib.Dec.{eqb}
 use lib.ListN.{length, take, drop, drop-of-length-le, length-take}
@@ -13,14 +12,14 @@ use Rattle.refusals.specs.declared.Refusal.{Refusal}
 use Rattle.brackets.specs.declared.scan.Phase.{Phase}
 use Rattle.brackets.specs.declared.scan.Phase.the-variants.{Going, Done, Unclosed, Trailing}
 use Rattle.brackets.specs.declared.scan.Scan.{Scan}
-use Rattle.brackets.specs.Token.{Token, opens, closes, atom, atomText}
-use Rattle.brackets.specs.Count.{start, stopped, opened, closed, added, while, counts, counted}
+use Rattle.brackets.specs.Token.{opens, closes, atom, atomText}
+use Rattle.brackets.specs.Count.{start, opened, closed, added, while}
 use Rattle.tokens.specs.declared.atom.Sized.{Sized}
 use Rattle.tokens.specs.declared.atom.Sized.the-variants as S
 use Rattle.tokens.specs.declared.atom.Sized.the-variants.{Text}
 use Rattle.tokens.specs.declared.lexeme.Lexeme.{Lexeme}
 use Rattle.tokens.specs.Lexeme.{lexemeAt}
-use Rattle.tokens.specs.Piece.{Piece, space, token, wrong, pieceOf, pieceAt, sizedOf, Lexed, ok, bad, emit, lex}
+use Rattle.tokens.specs.Piece.{Piece, space, token, wrong, pieceOf, sizedOf, Lexed, ok, bad, emit, lex}
 use Rattle.tokens.specs.Past.{Past}
 use Rattle.tokens.proofs.Lexes.{lex-nil, found-some, found-within, found-there, found-piece, lex-at, textSize, size-small, bytes-part}
 use Rattle.reader.specs.declared.tally.Tally.{Tally}

@@ -1,6 +1,6 @@
 -- Every accepted tree is sound, so that its words and text pass the check of 27 as that same tree.
 -- Assumes nothing.
-use mathlib.Core.Path.{_≡_, refl, sym, ap, _∙_, subst}
+use mathlib.Core.Path.{_≡_, refl, sym, _∙_, subst}
 use mathlib.Core.Bool.{Bool, true, false, cond, _&&_}
 use mathlib.Core.List.{List, [], _∷_, _++_}
 use Prim.Native.Nat.{ℕ, zero, suc, _+_, _-_, _*_, _^_, _≤_, _<_}
@@ -13,7 +13,6 @@ use Rattle.refusals.specs.declared.Refusal.{Refusal}
 use Rattle.utf8.specs.Octets.{utf8}
 use Rattle.words.specs.declared.digits.Radix.{Radix}
 use Rattle.words.specs.declared.digits.Radix.the-variants.{Binary, Decimal, Hexadecimal}
-use Rattle.words.specs.declared.digits.Parsed.{Parsed}
 use Rattle.words.specs.declared.digits.Parsed.the-variants.{Number, Refused}
 use Rattle.words.specs.Pair.{value, pairOf}
 use Rattle.words.specs.Radix.{baseOf}
@@ -21,24 +20,24 @@ use Rattle.words.specs.Run.{number, digits, someByte, parsed}
 use Rattle.words.specs.Extension.{extended}
 use Rattle.words.proofs.Numbers.{value-pair}
 use Rattle.strings.specs.Points.{points}
-use Rattle.strings.specs.Text.{text as textOf, anySurrogate}
+use Rattle.strings.specs.Text.{anySurrogate}
 use Rattle.strings.proofs.Texts.{Bytes, text-utf8}
 use Rattle.lexicon.specs.Class.{classOf}
-use Rattle.arena.specs.Tree.{Tree, Trees, bitVec, numeral, string, symbol, app, nil, cons, nodes, text, BitVector, mostWidth, Sound, SoundAll}
-use Rattle.arena.specs.Layout.{stride, words}
+use Rattle.arena.specs.Tree.{Tree, Trees, app, nil, cons, text, BitVector, Sound, SoundAll}
+use Rattle.arena.specs.Layout.{words}
 use Rattle.arena.specs.Arena.{Arena}
 use Rattle.arena.proofs.Layouts.{length-words}
-use Rattle.brackets.specs.Token.{Atom, bits, Token, opens, closes, atom, leaf}
+use Rattle.brackets.specs.Token.{Atom, Token, opens, closes, atom, leaf}
 use Rattle.brackets.specs.Walk.{snoc, Walk, going, done, fault, add, close, onward, step, walk, tree}
 use Rattle.tokens.specs.declared.lexeme.Kind.{Kind}
 use Rattle.tokens.specs.declared.lexeme.Kind.the-variants as K
 use Rattle.tokens.specs.declared.lexeme.Lexeme.{Lexeme}
 use Rattle.tokens.specs.Lexeme.{afterQuote, afterHash, byClass, lexemeAt, inside}
-use Rattle.tokens.specs.Piece.{Piece, space, token, wrong, fromParsed, bitsOf, pieceOf, pieceAt, Lexed, ok, bad, more, emit, lexAfter, lex}
+use Rattle.tokens.specs.Piece.{Piece, space, token, wrong, fromParsed, pieceOf, pieceAt, Lexed, ok, bad, emit, lexAfter, lex}
 use Rattle.reader.specs.Read.{inputLimit, parse}
 use Rattle.reader.proofs.Signs.{binary-below, hexadecimal-below, extended-sound}
-use Rattle.reader.proofs.Bounds.{Bounded, accepted-small}
-use Rattle.reader.proofs.Holds.{Found, found, parse-is}
+use Rattle.reader.proofs.Bounds.{accepted-small}
+use Rattle.reader.proofs.Holds.{found, parse-is}
 
 abbrev SoundToken : Token → Type 0
 SoundToken opens = Unit {0}

@@ -1,10 +1,9 @@
 -- One piece of the first pass, by its kind.
 -- Assumes nothing.
-use mathlib.Core.Path.{_≡_, refl, sym, ap, _∙_, subst}
+use mathlib.Core.Path.{_≡_, refl, sym, ap, _∙_}
 use mathlib.Core.Bool.{Bool, true, false, cond}
 use mathlib.Core.List.{List}
-use Prim.Native.Nat.{ℕ, _+_, _<_, _^_}
-use native.Mathlib.Omega.{arith}
+use Prim.Native.Nat.{ℕ}
 use Rattle.words.specs.declared.digits.Radix.{Radix}
 use Rattle.words.specs.declared.digits.Radix.the-variants.{Decimal}
 use Rattle.words.specs.declared.digits.Parsed.{Parsed}
@@ -14,15 +13,15 @@ use Rattle.utf8.specs.Octets.{utf8}
 use Rattle.strings.specs.Points.{points}
 use Rattle.strings.specs.Text.{anySurrogate}
 use Rattle.brackets.specs.declared.scan.Scan.{Scan}
-use Rattle.brackets.specs.Token.{Atom, Token, opens, closes, atom}
-use Rattle.brackets.specs.Count.{counts, opened, closed, while}
+use Rattle.brackets.specs.Token.{Atom, opens, closes, atom}
+use Rattle.brackets.specs.Count.{opened, closed, while}
 use Rattle.tokens.specs.declared.atom.Sized.{Sized}
 use Rattle.tokens.specs.declared.atom.Sized.the-variants as S
 use Rattle.tokens.specs.declared.lexeme.Kind.{Kind}
 use Rattle.tokens.specs.declared.lexeme.Kind.the-variants as K
 use Rattle.tokens.specs.Piece.{Piece, space, token, wrong, fromParsed, pieceOf, sizedOf}
 use Rattle.reader.specs.declared.tally.Tally.{Tally}
-use Rattle.reader.specs.declared.tally.Tally.the-variants.{Scanned, Fault}
+use Rattle.reader.specs.declared.tally.Tally.the-variants.{Scanned}
 use Rattle.reader.specs.Tally.{turned, sizedTurn, Ample, AmpleSize}
 
 -- a piece that is an atom or a fault

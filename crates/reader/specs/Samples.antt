@@ -1,18 +1,19 @@
 -- Document 01, "Samples at the edges": the samples marked P, in its order, as one table.
 use mathlib.Core.Path.{_≡_, refl}
-use mathlib.Core.List.{List, [], _∷_, map}
-use Prim.Native.Nat.{ℕ, _-_, _^_}
+use mathlib.Core.List.{[], _∷_, map}
+use Prim.Native.Nat.{_-_, _^_}
+use Rattle.ground.specs.Lists.{all}
 use Rattle.refusals.specs.declared.Refusal.the-variants.{UnexpectedEnd, Utf8Error, StringParseError, ParseIntError, UnclosedSExpr, TrailingTokens}
 use Rattle.words.specs.Radix.{worth}
-use Rattle.words.specs.Run.{from, digits, parsed}
+use Rattle.words.specs.Run.{from, parsed}
 use Rattle.words.specs.Extension.{extended}
 use Rattle.utf8.specs.Octets.{octets, utf8}
 use Rattle.utf8.specs.Encoding.{scalar, encoded}
 use Rattle.strings.specs.Escape.{hexRun, braced, bracedEscape, fourDigits, escape}
 use Rattle.strings.specs.Points.{characterAt, pointsAfter}
 use Rattle.strings.specs.Text.{encodings, text, anySurrogate}
-use Rattle.arena.specs.Tree.{Tree, Trees, bitVec, string, symbol, app, nil, cons}
-use Rattle.brackets.specs.Walk.{Outcome, tree, refused}
+use Rattle.arena.specs.Tree.{bitVec, string, symbol, app, nil, cons}
+use Rattle.brackets.specs.Walk.{tree, refused}
 use Rattle.lexicon.specs.Class.{classOf}
 use Rattle.lexicon.specs.Span.{spanBy, inSymbol, inLine}
 use Rattle.tokens.specs.Lexeme.{inside, lexemeAt}
@@ -51,5 +52,5 @@ samples :
     ∷ refused Utf8Error
     ∷ tree (string (0xC3 ∷ 0xBF ∷ []))
     ∷ []
-unfolding parse lexAfter pieceAt lexemeAt inside classOf spanBy inSymbol inLine utf8 octets parsed digits from worth extended hexRun braced bracedEscape fourDigits escape characterAt pointsAfter encodings text anySurrogate scalar encoded
+unfolding parse lexAfter pieceAt lexemeAt inside classOf spanBy inSymbol inLine utf8 octets parsed all from worth extended hexRun braced bracedEscape fourDigits escape characterAt pointsAfter encodings text anySurrogate scalar encoded
 samples = refl

@@ -2,7 +2,6 @@
 use mathlib.Core.Path.{_≡_}
 use Prim.Native.Nat.{ℕ, _+_, _<_, _^_}
 use Rattle.brackets.specs.declared.scan.Scan.{Scan}
-use Rattle.brackets.specs.Token.{Token}
 use Rattle.brackets.specs.Count.{counts, counted, added, while}
 use Rattle.tokens.specs.declared.atom.Sized.{Sized}
 use Rattle.tokens.specs.declared.atom.Sized.the-variants as S

@@ -3,11 +3,10 @@ use mathlib.Core.Path.{_≡_}
 use mathlib.Core.List.{List, _++_}
 use Prim.Native.Nat.{ℕ, _+_, _*_, _≤_, _<_, _^_}
 use lib.ListN.{length, drop}
-use lib.Seq.{sets}
 use Rattle.arena.specs.Tree.{Tree, nodes, text, depth}
 use Rattle.arena.specs.Layout.{stride, words}
 use Rattle.brackets.specs.declared.scan.Scan.{Scan}
-use Rattle.brackets.specs.Token.{Token, opens, closes, atom, atomText, atomWords}
+use Rattle.brackets.specs.Token.{opens, closes, atom, atomText, atomWords}
 use Rattle.brackets.specs.Count.{counts, added, while}
 use Rattle.brackets.specs.Put.{leafN, putN, putT, putS, FineOpen, FineClose, FineLeaf}
 use Rattle.brackets.specs.Walk.{tree}

@@ -67,9 +67,6 @@ finding-start s index n p h = record {
 
 module _ (s index : List ℕ) (n p lo hi : ℕ) (h : Finding s index n p lo hi) (l : lo < hi) (q : ℕ) (q-is : q ≡ getD index (lo + (hi - lo) / 2) 0)
     (t : Bool) (t-is : t ≡ before (keyAt s q) (keyAt s p)) where
-  inside : lo + (hi - lo) / 2 < hi
-  inside = omega arith
-
   long : length (take n index) ≡ n
   long = length-take-le n index (h .room)
 

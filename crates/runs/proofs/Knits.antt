@@ -19,7 +19,7 @@ use Rattle.order.proofs.Merges.{merge-first, merge-second, merge-later, merge-e
 use Rattle.runs.specs.Run.{key, run, plain}
 use Rattle.runs.specs.Piece.{piece, keyAt}
 use Rattle.runs.specs.Place.{Plain, Ended}
-use Rattle.runs.specs.Merge.{Two, Merged, Left, Apart, Turned, Knitted}
+use Rattle.runs.specs.Merge.{Merged, Left, Apart, Turned, Knitted}
 use Rattle.runs.proofs.Pieces.{piece-within, piece-some, ended-more}
 use Rattle.runs.proofs.Runs.{run-nil, run-cons, run-long, run-none, drop-run, key-at, piece-at, end-at}
 
@@ -213,9 +213,6 @@ module _ (last : Bool) (a s₀ s : List ℕ) (i j w : ℕ) (h : Knitting last a 
   pub knitting-next : (s′ : List ℕ) (r : _) → length s′ ≡ length s → Turned last a s s′ i j w r → Knitting last a s₀ s′ (r .a) (r .b) (r .to)
   knitting-next s′ r e t = record { long = e ∙ h .long; apart = apart-long a s s′ (r .a) (r .b) (r .to) e (t .apart); left = λ whole f. t .left whole (h .left whole f) }
 
-  pub knitting-falls : (s′ : List ℕ) (r : _) → length s′ ≡ length s → Turned last a s s′ i j w r → length a + length s₀ - (r .a + r .b) < length a + length s₀ - (i + j)
-  knitting-falls s′ r e t = let x = h .long in let y = t .apart .first in let z = t .apart .second in let v = t .falls in omega arith
-
   -- the rest of the one run, where the other is at its end
   pub knitted-first : (exit : List ℕ) (r : ℕ) → i < length a → length s ≤ j → Offers s exit w (take (length a - i) (drop i a)) r → Knitted last a s₀ exit r
   knitted-first exit r li lj o =
@@ -256,13 +253,6 @@ module _ (last : Bool) (a s₀ s : List ℕ) (i j w : ℕ) (h : Knitting last a 
             piece-front p fit ∙ ap (λ (y : List ℕ). take w s ++ y) (l .second ∙ ap run (sym (ap (λ (y : List (List ℕ)). inserts key last y (l .bs)) none ∙ inserts-nothing last (l .bs)))) ∙ l .makes in
             record { long = sym (length-take-le r exit (omega (arith, piece-long p))) ∙ ap length e; bytes = e };
       }
-
-  pub knitting-draw : (w ≤ j) × (j + (length s - j) ≤ length s)
-  knitting-draw =
-      let b = h .apart .behind in
-      let c = h .apart .second in
-      let d = h .apart .first in
-      (omega arith, omega arith)
 
 -- ---- weave
 

@@ -32,9 +32,6 @@ laying-start a i s w h = record {
 }
 
 module _ (a : List ℕ) (i : ℕ) (s₀ : List ℕ) (w : ℕ) (s : List ℕ) (n : ℕ) (h : Laying a i s₀ w s n) where
-  pub laying-room : n < length a - i → w + n < length s
-  laying-room l = let r = h .room in let e = h .moved .long in omega arith
-
   byte : n < length a - i → getD a (i + n) 0 ≡ getD (drop i a) n 0
   byte l = sym (getD-drop i a n 0)
 
@@ -92,12 +89,6 @@ module _ (s₀ : List ℕ) (w j : ℕ) (s : List ℕ) (n : ℕ) (h : Sliding s�
 
   less : n < length s - j → n < length s₀ - j
   less l = let e = h .long in omega arith
-
-  pub sliding-read : n < length s - j → j + n < length s
-  sliding-read l = omega arith
-
-  pub sliding-room : n < length s - j → w + n < length s
-  sliding-room l = laying-room s₀ j s₀ w s n (h .laid) (less l)
 
   pub sliding-next : n < length s - j → (getD s (j + n) 0 ≡ 0 → ⊥) → Sliding s₀ w j (set s (w + n) (getD s (j + n) 0)) (n + 1)
   sliding-next l e = record {

@@ -38,9 +38,6 @@ run-long r rs = ap length (run-cons r rs) ∙ length-append r (0 ∷ run rs) ∙
 pub run-both : (us vs : List (List ℕ)) → length (run (us ++ vs)) ≡ length (run us) + length (run vs)
 run-both us vs = ap length (run-append us vs) ∙ length-append (run us) (run vs)
 
-pub run-one : (r : List ℕ) → run (r ∷ []) ≡ r ++ (0 ∷ [])
-run-one r = run-cons r [] ∙ ap (λ (l : List ℕ). r ++ (0 ∷ l)) run-nil
-
 pub run-none : (rs : List (List ℕ)) → length (run rs) ≡ 0 → rs ≡ []
 run-none [] h = refl
 run-none (r ∷ rs) h = absurd (omega (arith, run-long r rs))

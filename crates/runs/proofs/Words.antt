@@ -13,7 +13,7 @@ use Rattle.ground.proofs.Tests.{by-test, by-order}
 use Rattle.ground.proofs.Lists.{at-place}
 use Rattle.order.specs.Order.{before}
 use Rattle.order.proofs.Befores.{never, before-none, before-some, before-less, before-more, before-same}
-use Rattle.runs.specs.Run.{end, key, plain}
+use Rattle.runs.specs.Run.{key, plain}
 use Rattle.runs.specs.Piece.{mark, word, cell, keyAt}
 use Rattle.runs.specs.Place.{Skipped}
 

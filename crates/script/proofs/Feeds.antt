@@ -1,21 +1,19 @@
 -- The line feeds of a line: the last byte, those inside its parts, and declare-datatype's own. A comment has the last one only.
 -- Assumes nothing.
-use mathlib.Core.Path.{_≡_, refl, sym, ap, _∙_}
+use mathlib.Core.Path.{_≡_, refl, ap, _∙_}
 use mathlib.Core.Bool.{Bool, true, false, cond}
 use mathlib.Core.List.{List, [], _∷_, _++_, map}
 use Prim.Native.Nat.{ℕ, suc, _+_, _-_, _*_}
-use Prim.Native.String.{String}
 use native.Mathlib.Nat.{zero-mul, suc-mul}
 use native.Mathlib.Omega.{arith}
 use lib.Dec.{eqb}
 use lib.ListN.{length}
-use borrow.Author.Tests.{eqb-true}
 use Rattle.ground.specs.Bytes.{bytes}
 use Rattle.ground.specs.Lists.{joined}
 use Rattle.ground.proofs.Tests.{by-test}
 use Rattle.parts.specs.Parts.{paired}
 use Rattle.parts.specs.Texts.{list, spaced, pair}
-use Rattle.script.specs.Line.{command, setLogic, setOption, comment, assert, defineFun, declareConst, declareFun, indent, constructorList, isEmpty, parametric, withParameters, datatypeLine, declareDatatype}
+use Rattle.script.specs.Line.{command, setLogic, setOption, comment, assert, defineFun, declareConst, declareFun, indent, constructorList, isEmpty, parametric, withParameters, declareDatatype}
 use Rattle.script.specs.Feeds.{feeds, feedsIn}
 
 feeds-append : (a b : List ℕ) → feeds (a ++ b) ≡ feeds a + feeds b

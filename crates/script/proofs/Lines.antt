@@ -1,15 +1,13 @@
 -- Each line as the pieces that are written one after the other.
 -- Assumes nothing.
 use mathlib.Core.Path.{_≡_, refl, sym, ap, _∙_}
-use mathlib.Core.Bool.{true, false}
-use mathlib.Core.List.{List, [], _∷_, _++_, map, append-assoc}
+use mathlib.Core.List.{List, _++_, map, append-assoc}
 use Prim.Native.Nat.{ℕ}
-use Prim.Native.String.{String}
 use Rattle.ground.specs.Bytes.{bytes}
 use Rattle.ground.specs.Lists.{joined}
 use Rattle.parts.specs.Parts.{paired}
 use Rattle.parts.specs.Texts.{list, pair, spaced}
-use Rattle.script.specs.Line.{setLogic, setOption, comment, assert, defineFun, declareConst, declareFun, indent, constructorList, isEmpty, parametric, withParameters, datatypeLine, declareDatatype, checkSat, getModel, reset, exit}
+use Rattle.script.specs.Line.{setLogic, setOption, comment, assert, defineFun, declareConst, declareFun, indent, constructorList, parametric, datatypeLine, checkSat, getModel, reset, exit}
 
 pub check-sat-line : bytes "(check-sat)\n" ≡ checkSat
 unfolding checkSat joined

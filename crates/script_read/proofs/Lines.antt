@@ -5,11 +5,11 @@ use mathlib.Core.Bool.{false}
 use mathlib.Core.List.{List, [], _∷_}
 use Prim.Native.Nat.{ℕ}
 use Rattle.ground.specs.Bytes.{bytes}
-use Rattle.ground.specs.Lists.{joined}
+use Rattle.ground.specs.Lists.{all, joined}
 use Rattle.utf8.specs.Octets.{octets, utf8}
 use Rattle.lexicon.specs.Class.{classOf}
 use Rattle.lexicon.specs.Span.{inSymbol}
-use Rattle.lexicon.specs.Symbol.{every, oneSymbol}
+use Rattle.lexicon.specs.Symbol.{oneSymbol}
 use Rattle.arena.specs.Tree.{Tree, Trees, app}
 use Rattle.brackets.specs.Walk.{tree}
 use Rattle.tokens.specs.Piece.{lexAfter}
@@ -30,15 +30,15 @@ command-read parts ts xs =
     record { parsed = e; left = λ h N T S. read-left (command parts) N T S (app ts) e h }
 
 pub assert-read : (term : List ℕ) (t : Tree) → AssertRead term t
-unfolding assert oneSymbol every inSymbol classOf utf8 octets
+unfolding assert oneSymbol all inSymbol classOf utf8 octets
 assert-read term t x = command-read _ _ (first (symbol-read (bytes "assert") refl) (first x none))
 
 pub declare-const-read : (name sort : List ℕ) (n s : Tree) → DeclareConstRead name sort n s
-unfolding declareConst oneSymbol every inSymbol classOf utf8 octets
+unfolding declareConst oneSymbol all inSymbol classOf utf8 octets
 declare-const-read name sort n s x y = command-read _ _ (first (symbol-read (bytes "declare-const") refl) (first x (first y none)))
 
 pub declare-fun-read : (name : List ℕ) (arguments : List (List ℕ)) (sort : List ℕ) (n : Tree) (ts : Trees) (s : Tree) → DeclareFunRead name arguments sort n ts s
-unfolding declareFun oneSymbol every inSymbol classOf utf8 octets
+unfolding declareFun oneSymbol all inSymbol classOf utf8 octets
 declare-fun-read name arguments sort n ts s x xs y = command-read _ _ (first (symbol-read (bytes "declare-fun") refl) (first x (first (list-is xs) (first y none))))
 
 pairs-are : {parts : List (List ℕ)} {ts : Trees} → Pairs parts ts → Expressions (paired pair parts) ts
@@ -48,7 +48,7 @@ pairs-are (firstPair x y xs) = first (list-is (first x (first y none))) (pairs-a
 
 pub define-fun-read : (name : List ℕ) (arguments : List (List ℕ)) (sort body : List ℕ) (n : Tree) (ts : Trees) (s b : Tree)
     → DefineFunRead name arguments sort body n ts s b
-unfolding defineFun oneSymbol every inSymbol classOf utf8 octets
+unfolding defineFun oneSymbol all inSymbol classOf utf8 octets
 define-fun-read name arguments sort body n ts s b x xs y z =
     command-read _ _ (first (symbol-read (bytes "define-fun") refl) (first x (first (list-is (pairs-are xs)) (first y (first z none)))))
 
@@ -61,12 +61,12 @@ some-byte (b ∷ bs) t (part ∷ parts) h = refl
 
 body-is : {parameters : List (List ℕ)} {ps : Trees} {body : List ℕ} {t : Tree} → Expressions parameters ps → Expression body t
     → Expression (withParameters parameters body) (parametric ps t)
-unfolding withParameters joined oneSymbol every inSymbol classOf utf8 octets
+unfolding withParameters joined oneSymbol all inSymbol classOf utf8 octets
 body-is none z = z
 body-is (first {part} {t} {parts} x xs) z =
     rw (some-byte part t parts (x .parsed)) (list-is (first (symbol-read (bytes "par") refl) (first (list-is (first x xs)) (first z none))))
 
 pub declare-datatype-read : (name : List ℕ) (parameters constructors : List (List ℕ)) (n : Tree) (ps cs : Trees) → DeclareDatatypeRead name parameters constructors n ps cs
-unfolding declareDatatype oneSymbol every inSymbol classOf utf8 octets
+unfolding declareDatatype oneSymbol all inSymbol classOf utf8 octets
 declare-datatype-read name parameters constructors n ps cs x xs ys =
     command-read _ _ (first (symbol-read (bytes "declare-datatype") refl) (first x (first (body-is xs (constructors-are ys)) none)))

@@ -7,6 +7,7 @@ use Rattle.refusals.specs.declared.Refusal.{Refusal}
 use Rattle.arena.specs.Tree.{Tree, Trees, app, nil}
 use Rattle.brackets.specs.Token.{Token, opens, closes, atom, leaf}
 use Rattle.brackets.specs.Walk.{snoc, Walk, going, done, fault, add, close, step, walk, Outcome, tree, refused}
+use Rattle.brackets.proofs.Rust.{stuck}
 
 pub walk-append : (w : Walk) (xs ys : List Token) → walk w (xs ++ ys) ≡ walk (walk w xs) ys
 walk-append w [] ys = refl
@@ -26,10 +27,6 @@ isDone (fault why) = false
 clash : {w : Walk} {t : Tree} {P : Type 0} → isDone w ≡ false → w ≡ done t → P
 clash h e = absurd (false≢true (sym h ∙ ap isDone e))
 
-fault-stays : (why : Refusal) (xs : List Token) → walk (fault why) xs ≡ fault why
-fault-stays why [] = refl
-fault-stays why (x ∷ xs) = fault-stays why xs
-
 -- below the lists that are open in the walk of one tree, others may be
 module _ (st : List Trees) (t : Tree) where
   abbrev Below : List Token → List Trees → Type 0
@@ -37,11 +34,11 @@ module _ (st : List Trees) (t : Tree) where
 
   below-add : (xs : List Token) → ((ss : List Trees) → Below xs ss) → (ss : List Trees) (k : Tree) → walk (add ss k) xs ≡ done t → walk (add (ss ++ st) k) xs ≡ add st t
   below-add [] f [] k h = ap (add st) (ap (treeOr k) h)
-  below-add (x ∷ xs) f [] k h = clash (ap isDone (fault-stays _ xs)) h
+  below-add (x ∷ xs) f [] k h = clash (ap isDone (stuck _ xs)) h
   below-add xs f (ks ∷ ss) k h = f (snoc ks k ∷ ss) h
 
   below-close : (xs : List Token) → ((ss : List Trees) → Below xs ss) → (ss : List Trees) → walk (close ss) xs ≡ done t → walk (close (ss ++ st)) xs ≡ add st t
-  below-close xs f [] h = clash (ap isDone (fault-stays _ xs)) h
+  below-close xs f [] h = clash (ap isDone (stuck _ xs)) h
   below-close xs f (ks ∷ ss) h = below-add xs f ss (app ks) h
 
   pub below : (xs : List Token) (ss : List Trees) → Below xs ss

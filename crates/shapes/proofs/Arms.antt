@@ -13,7 +13,7 @@ use Rattle.arena.specs.Tree.{Tree, Trees, bitVec, numeral, string, symbol, app,
 use Rattle.shapes.specs.declared.shape.Found.{Found}
 use Rattle.shapes.specs.declared.shape.Kind.{Kind}
 use Rattle.shapes.specs.declared.look.Wide.{Wide}
-use Rattle.shapes.specs.Shape.{Shape, singleton, union, made, is, onSymbol, onNumeral, onBitVec, onApp, extShape, one, two, pairShape}
+use Rattle.shapes.specs.Shape.{Shape, made, is, onSymbol, onNumeral, onBitVec, onApp, extShape, one, two, pairShape}
 use Rattle.shapes.specs.Shows.{Standing, Reads, Shows, OneAt, TwoAt, WideAt}
 use Rattle.shapes.proofs.Stood.{first-of, others-of, said-so}
 

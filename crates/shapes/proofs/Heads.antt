@@ -10,12 +10,12 @@ use Rattle.arena.specs.declared.node.Node.{Node}
 use Rattle.arena.specs.declared.node.Node.the-variants.{Symbol, App}
 use Rattle.arena.specs.Node.{nodeAt, afterAt}
 use Rattle.arena.specs.Text.{textIs}
-use Rattle.arena.specs.Tree.{Tree, Trees, bitVec, numeral, string, symbol, app, nil, cons, count}
+use Rattle.arena.specs.Tree.{Tree, Trees, bitVec, numeral, string, symbol, app, nil, cons}
 use Rattle.arena.proofs.Views.{after-of}
 use Rattle.shapes.specs.declared.shape.Found.{Found}
 use Rattle.shapes.specs.declared.look.Word.{Word}
 use Rattle.shapes.specs.declared.look.Parts.{Parts}
-use Rattle.shapes.specs.Shape.{Shape, asSome, other, onSymbol, one, two, three, someShape, shape}
+use Rattle.shapes.specs.Shape.{Shape, asSome, other, onSymbol, one, two, someShape, shape}
 use Rattle.shapes.specs.Shows.{Standing, StandingAll, Reads, Shows, OneAt, TwoAt, AppliedAt, HeadedAt, ByHeadAt, ShapeAt, WordAt, PartsAt}
 use Rattle.shapes.proofs.Looks.{kind, kinds, symbol-there, list-there, children-of}
 use Rattle.shapes.proofs.Stood.{first-of, others-of, said-so}

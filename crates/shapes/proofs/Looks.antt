@@ -1,11 +1,9 @@
 -- What a node is tells what tree stands there.
 -- Assumes nothing.
 use mathlib.Core.Path.{_≡_, refl, sym, ap, _∙_, subst}
-use mathlib.Core.Bool.{Bool, true, false, true≢false}
 use mathlib.Core.List.{List}
-use Prim.Native.Nat.{ℕ, suc, _+_, _*_, _^_, _≤_, _%_, _/_}
+use Prim.Native.Nat.{ℕ, _+_, _^_, _%_, _/_}
 use native.Mathlib.Omega.{arith}
-use lib.Dec.{eqb}
 use lib.ListN.{length}
 use borrow.Author.Tests.{ne-eqb}
 use Rattle.arena.specs.declared.node.Node.{Node}
@@ -13,13 +11,12 @@ use Rattle.arena.specs.declared.node.Node.the-variants.{BitVec, Numeral, String
 use Rattle.arena.specs.Node.{nodeAt}
 use Rattle.arena.specs.Text.{textAt}
 use Rattle.arena.proofs.Views.{node-within}
-use Rattle.arena.specs.Tree.{Tree, Trees, bitVec, numeral, string, symbol, app, nil, cons, count}
+use Rattle.arena.specs.Tree.{Tree, Trees, bitVec, numeral, string, symbol, app, count}
 use Rattle.shapes.specs.declared.look.Word.{Word}
 use Rattle.shapes.specs.declared.look.Index.{Index}
 use Rattle.shapes.specs.declared.look.Wide.{Wide}
 use Rattle.shapes.specs.declared.look.Parts.{Parts}
-use Rattle.shapes.specs.Shape.{onSymbol, onNumeral, onBitVec, onApp}
-use Rattle.shapes.specs.Shows.{Standing, StandingAll, Reads, WordAt, IndexOf, WideAt, PartsAt}
+use Rattle.shapes.specs.Shows.{Standing, StandingAll, WordAt, IndexOf, WideAt, PartsAt}
 
 -- the kind of a node, and of the tree that stands there
 abbrev pub kind : Node → ℕ

@@ -3,8 +3,7 @@
 use mathlib.Core.Path.{_≡_, refl, sym, ap, _∙_, subst}
 use mathlib.Core.Bool.{Bool, true, false, cond, true≢false}
 use mathlib.Core.List.{List, [], _∷_, _++_}
-use Prim.Native.Nat.{ℕ, suc, _+_, _*_, _-_, _^_, _<_, _≤_}
-use Prim.Native.String.{String}
+use Prim.Native.Nat.{ℕ, _+_, _*_, _-_, _^_, _<_, _≤_}
 use native.Mathlib.Omega.{arith}
 use lib.Dec.{eqb}
 use lib.ListN.{length, take, drop, length-drop}
@@ -13,12 +12,12 @@ use Rattle.ground.specs.Bytes.{bytes}
 use Rattle.ground.proofs.Tests.{by-order, and-true}
 use Rattle.arena.specs.Node.{afterAt}
 use Rattle.arena.specs.Text.{textAt, sameText, textIs}
-use Rattle.arena.specs.Tree.{Tree, Trees, numeral, symbol, nil, cons}
+use Rattle.arena.specs.Tree.{Tree, numeral, symbol, nil, cons}
 use Rattle.arena.proofs.Texts.{is-within, is-past}
 use Rattle.shapes.specs.declared.shape.Found.{Found}
 use Rattle.shapes.specs.declared.look.Word.{Word}
 use Rattle.shapes.specs.declared.look.Index.{Index}
-use Rattle.shapes.specs.Shape.{Shape, made, indexed, is, onBv, onSymbol, indexShape, wordShape, pairShape}
+use Rattle.shapes.specs.Shape.{Shape, made, indexed, onBv, indexShape, wordShape, pairShape}
 use Rattle.shapes.specs.Shows.{StandingAll, Reads, Shows, TwoAt, IndexAt, WordAt, IndexOf}
 use Rattle.shapes.proofs.Stood.{first-of, second-of, said-so, said-name}
 use Rattle.shapes.proofs.Seen.{seen-word}

@@ -1,15 +1,14 @@
 -- Trees that stand one after the other: the first, and the others behind it; and the names that the text has.
 -- Assumes nothing.
-use mathlib.Core.Path.{_≡_, refl, sym, ap, _∙_, subst}
-use mathlib.Core.Bool.{Bool, true, false}
-use mathlib.Core.List.{List, []}
-use Prim.Native.Nat.{ℕ, suc, _+_}
+use mathlib.Core.Path.{_≡_, refl, sym, _∙_, subst}
+use mathlib.Core.Bool.{Bool, true}
+use mathlib.Core.List.{List}
+use Prim.Native.Nat.{ℕ, suc}
 use native.Mathlib.Omega.{arith}
-use lib.ListN.{length}
 use Rattle.arena.specs.Node.{afterAt}
 use Rattle.arena.specs.Stands.{standAll}
 use Rattle.arena.specs.Text.{textAt, sameText, textIs}
-use Rattle.arena.specs.Tree.{Tree, Trees, nil, cons, count}
+use Rattle.arena.specs.Tree.{Tree, Trees, nil, cons}
 use Rattle.arena.proofs.Layouts.{stands-after}
 use Rattle.arena.proofs.Texts.{named, same-equal}
 use Rattle.shapes.specs.Shows.{Standing, StandingAll, Reads}

@@ -1,5 +1,5 @@
 -- Document 01, "Sorts and literals", applications by `decode_literal_app`'s arms, their words and counts matched and nothing read.
-use mathlib.Core.Bool.{Bool, true, false, cond, _&&_, _||_}
+use mathlib.Core.Bool.{Bool, cond, _&&_, _||_}
 use mathlib.Core.List.{List, [], _∷_}
 use Prim.Native.Nat.{ℕ}
 use Prim.Native.String.{String}

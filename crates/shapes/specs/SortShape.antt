@@ -1,9 +1,9 @@
 -- Document 01, "Sorts and literals", written sorts, their words and counts matched and nothing read.
 use mathlib.Core.Path.{_≡_}
-use mathlib.Core.Bool.{Bool, cond, _&&_}
+use mathlib.Core.Bool.{cond, _&&_}
 use mathlib.Core.List.{List}
 use Prim.Native.Nat.{ℕ, _+_, _*_, _^_}
-use Rattle.arena.specs.Tree.{Tree, Trees, app, nil, cons}
+use Rattle.arena.specs.Tree.{Tree, Trees, nil, cons}
 use Rattle.shapes.specs.declared.sort.SortFound.{SortFound}
 use Rattle.shapes.specs.Shape.{is, onSymbol, onNumeral, onApp}
 use Rattle.shapes.specs.Shows.{Standing, StandingAll, Reads}

@@ -8,7 +8,6 @@ use Rattle.refusals.specs.declared.Refusal.{Refusal}
 use Rattle.refusals.specs.declared.Refusal.the-variants.{UnknownType, TooNested}
 use Rattle.arena.specs.Text.{textAt}
 use Rattle.arena.specs.Tree.{Tree}
-use Rattle.tables.specs.declared.sort.Wanted.{Wanted}
 use Rattle.tables.specs.Layout.{Lent, tablesOf}
 use Rattle.tables.specs.Sort.{Sort, optionOf, setOf, Tables}
 use Rattle.shapes.specs.declared.sort.SortFound.{SortFound}
@@ -17,7 +16,7 @@ use Rattle.shapes.specs.Shows.{Standing}
 use Rattle.sorts.specs.declared.sort.Sorted.{Sorted}
 use Rattle.sorts.specs.Result.{Result, ok, refused, _>>=_}
 use Rattle.sorts.specs.Sort.{rowOf, sortOf, readSort}
-use Rattle.sorts.specs.Reads.{sorted, RowOf, WordSort, WidthSort, ReadsSort}
+use Rattle.sorts.specs.Reads.{sorted, WordSort, WidthSort, ReadsSort}
 
 -- one level read
 opened : (T : Tables) (allow : ℕ) (t : Tree) → (allow ≡ 0 → ⊥) → readSort T allow t ≡ sortOf T (λ u. readSort T (allow - 1) u) (sortShape t)

@@ -1,13 +1,12 @@
 -- The row of a sort, and of a word or a width that stands for one.
 -- Assumes nothing.
 use mathlib.Core.Path.{_≡_, refl, sym, ap, _∙_, subst}
-use mathlib.Core.Bool.{Bool, true, false, cond}
+use mathlib.Core.Bool.{Bool, true, false}
 use mathlib.Core.List.{List}
 use mathlib.Core.Option.{Option, none, some}
 use Prim.Native.Nat.{ℕ, _+_, _*_, _^_, _<_, _≤_}
 use Prim.Native.String.{String}
 use native.Mathlib.Omega.{arith}
-use lib.Dec.{ltb}
 use borrow.Author.Tests.{lt-ltb, le-ltb}
 use Rattle.ground.specs.Bytes.{bytes}
 use Rattle.refusals.specs.declared.Refusal.{Refusal}
@@ -15,14 +14,13 @@ use Rattle.refusals.specs.declared.Refusal.the-variants.{IntegerOverflow, ZeroW
 use Rattle.arena.specs.Text.{sameText}
 use Rattle.tables.specs.declared.find.Found.{Found}
 use Rattle.tables.specs.declared.sort.Wanted.{Wanted}
-use Rattle.tables.specs.Layout.{Lent, tablesOf}
+use Rattle.tables.specs.Layout.{tablesOf}
 use Rattle.tables.specs.Find.{found as asFound, sortRow, namedSort}
 use Rattle.tables.specs.Lookup.{FindsSort, FindsNamed}
-use Rattle.tables.specs.Sort.{Sort}
 use Rattle.tables.specs.View.{sortWanted}
 use Rattle.sorts.specs.declared.sort.Sorted.{Sorted}
-use Rattle.sorts.specs.Result.{Result, found, unless}
-use Rattle.sorts.specs.Sort.{rowOf, sortWord, sortWidth}
+use Rattle.sorts.specs.Result.{found, unless}
+use Rattle.sorts.specs.Sort.{sortWidth}
 use Rattle.sorts.specs.Reads.{sorted, RowOf, WordSort, WidthSort}
 
 pub is-row : (o : Option ℕ) (q : Found) (row : ℕ) (e : Refusal) → q ≡ asFound o → q ≡ Found.Row row → Sorted.Row row ≡ sorted (found e o)

@@ -1,17 +1,15 @@
 -- Document 01, "Sorts and literals": the row that a written sort stands for, 7, 8, 14, 23 and 24.
-use mathlib.Core.Path.{_≡_}
 use mathlib.Core.Bool.{cond}
 use mathlib.Core.List.{List}
 use Prim.Native.Nat.{ℕ, zero, suc, _^_}
 use lib.Dec.{ltb}
-use Rattle.refusals.specs.declared.Refusal.{Refusal}
 use Rattle.refusals.specs.declared.Refusal.the-variants.{IntegerOverflow, ZeroWidthBitVec, UnknownType, NoSortRow, TooNested}
 use Rattle.arena.specs.Tree.{Tree}
 use Rattle.tables.specs.Sort.{decimal, datetime, duration, Sort, bool, string, ext, bitVec, optionOf, setOf, Tables}
 use Rattle.tables.specs.Find.{sortRow, namedSort}
 use Rattle.shapes.specs.Shape.{is}
 use Rattle.shapes.specs.SortShape.{SortShape, word, widthOf, optionOf as optionShape, setOf as setShape, noSort, sortShape}
-use Rattle.sorts.specs.Result.{Result, ok, refused, _>>=_, unless, found}
+use Rattle.sorts.specs.Result.{Result, refused, _>>=_, unless, found}
 
 module _ (T : Tables) where
   -- a sort met or formed without a row is 23

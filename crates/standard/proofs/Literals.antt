@@ -21,7 +21,8 @@ use Rattle.brackets.specs.Token.{quoted, atom}
 use Rattle.tokens.specs.declared.lexeme.Kind.the-variants.{Quoted}
 use Rattle.tokens.specs.Lexeme.{lexeme, inside, afterQuote}
 use Rattle.tokens.specs.Piece.{Piece, token, pieceOf, more, emit, lex}
-use Rattle.standard.specs.Bytes.{among, every, enders, whiteSpaces, printable}
+use Rattle.ground.specs.Lists.{all}
+use Rattle.standard.specs.Bytes.{among, enders, whiteSpaces, printable}
 use Rattle.standard.specs.Written.{Inside, empty, byte, doubled, ended}
 use Rattle.standard.specs.Limits.{noRawByte, Plain}
 use Rattle.standard.proofs.Runs.{pass}
@@ -43,7 +44,7 @@ same-byte b h k =
     go false false false false false q = q
 
 literal-of : {s : List ℕ} → Inside s → noRawByte s ≡ true → Literal s
-unfolding every
+unfolding all
 literal-of empty h = L.empty
 literal-of (byte {b} {s} p q i) h =
     L.byte (same-byte b (both-left (ltb b 0x80) (noRawByte s) h) p) q (literal-of i (both-right (ltb b 0x80) (noRawByte s) h))
@@ -55,7 +56,7 @@ passed b [] h = rw h
 passed b (c ∷ cs) h = rw h
 
 no-quote : (b : ℕ) → among enders b ≡ true → eqb b 0x22 ≡ false
-unfolding every
+unfolding all
 no-quote b h = not-true (eqb b 0x22) (pass (λ (c : ℕ). not (eqb c 0x22)) enders b refl h)
 
 shut : (s : List ℕ) → ended s ≡ true → inside (0x22 ∷ s) ≡ 0

@@ -18,7 +18,8 @@ use Rattle.brackets.specs.Token.{name, atom}
 use Rattle.tokens.specs.declared.lexeme.Kind.the-variants.{Name}
 use Rattle.tokens.specs.Lexeme.{whole}
 use Rattle.tokens.specs.Piece.{Piece, token, pieceOf, more, emit, lex}
-use Rattle.standard.specs.Bytes.{among, every, from, enders, decimalDigits, symbolStarts, symbolBytes}
+use Rattle.ground.specs.Lists.{all}
+use Rattle.standard.specs.Bytes.{among, from, enders, decimalDigits, symbolStarts, symbolBytes}
 use Rattle.standard.specs.Written.{run, isSimple, ended}
 use Rattle.standard.proofs.Runs.{pass, pass-all, span-run}
 use Rattle.standard.proofs.Separators.{one-piece, at-class}
@@ -28,31 +29,31 @@ unfolding octets
 one-octet b bs h = rw (row-tells 0 0 0x7F b [] bs refl (omega arith) h)
 
 -- bytes below 80 hex are UTF-8
-low-octets : (s : List ℕ) → every (λ b. ltb b 0x80) s ≡ true → octets 0 s ≡ true
-unfolding octets every
+low-octets : (s : List ℕ) → all (λ b. ltb b 0x80) s ≡ true → octets 0 s ≡ true
+unfolding octets all
 low-octets [] h = refl
 low-octets (b ∷ bs) h =
-    let l = ltb-true b 0x80 (both-left (ltb b 0x80) (every (λ (c : ℕ). ltb c 0x80) bs) h) in
-    one-octet b bs (omega arith) ∙ low-octets bs (both-right (ltb b 0x80) (every (λ (c : ℕ). ltb c 0x80) bs) h)
+    let l = ltb-true b 0x80 (both-left (ltb b 0x80) (all (λ (c : ℕ). ltb c 0x80) bs) h) in
+    one-octet b bs (omega arith) ∙ low-octets bs (both-right (ltb b 0x80) (all (λ (c : ℕ). ltb c 0x80) bs) h)
 
-stop : every (λ b. not (inSymbol b)) enders ≡ true
-unfolding every inSymbol classOf
+stop : all (λ b. not (inSymbol b)) enders ≡ true
+unfolding all inSymbol classOf
 stop = refl
 
-bytes-are : every inSymbol symbolBytes ≡ true
-unfolding every from decimalDigits symbolStarts symbolBytes inSymbol classOf
+bytes-are : all inSymbol symbolBytes ≡ true
+unfolding all from decimalDigits symbolStarts symbolBytes inSymbol classOf
 bytes-are = refl
 
-bytes-low : every (λ b. ltb b 0x80) symbolBytes ≡ true
-unfolding every from decimalDigits symbolStarts symbolBytes
+bytes-low : all (λ b. ltb b 0x80) symbolBytes ≡ true
+unfolding all from decimalDigits symbolStarts symbolBytes
 bytes-low = refl
 
-starts-among : every (among symbolBytes) symbolStarts ≡ true
-unfolding among every from decimalDigits symbolStarts symbolBytes
+starts-among : all (among symbolBytes) symbolStarts ≡ true
+unfolding among all from decimalDigits symbolStarts symbolBytes
 starts-among = refl
 
 start-class : (b : ℕ) → among symbolStarts b ≡ true → classOf b ≡ 7
-unfolding every from symbolStarts classOf
+unfolding all from symbolStarts classOf
 start-class b h = eqb-true (classOf b) 7 (pass (λ (c : ℕ). eqb (classOf c) 7) symbolStarts b refl h)
 
 piece-is : (x : List ℕ) → octets 0 x ≡ true → pieceOf Name x ≡ token (atom (name x))
@@ -60,7 +61,7 @@ unfolding utf8
 piece-is x h = rw h
 
 -- a byte that starts symbols of ours, and others of the standard's
-lex-name : (b : ℕ) (bs s : List ℕ) → classOf b ≡ 7 → every inSymbol (b ∷ bs) ≡ true → every (λ c. ltb c 0x80) (b ∷ bs) ≡ true → ended s ≡ true
+lex-name : (b : ℕ) (bs s : List ℕ) → classOf b ≡ 7 → all inSymbol (b ∷ bs) ≡ true → all (λ c. ltb c 0x80) (b ∷ bs) ≡ true → ended s ≡ true
     → lex (b ∷ (bs ++ s)) ≡ more (atom (name (b ∷ bs))) (lex s)
 lex-name b bs s c h l e =
     one-piece b (bs ++ s) s (whole Name (length (b ∷ bs)))
@@ -69,26 +70,26 @@ lex-name b bs s c h l e =
     ∙ ap (λ (x : List ℕ). emit (pieceOf Name x) (lex s)) (take-append-seam (b ∷ bs) s)
     ∙ ap (λ (p : Piece). emit p (lex s)) (piece-is (b ∷ bs) (low-octets (b ∷ bs) l))
 
-simple-bytes : (b : ℕ) (bs : List ℕ) → isSimple (b ∷ bs) ≡ true → every (among symbolBytes) (b ∷ bs) ≡ true
-unfolding every
+simple-bytes : (b : ℕ) (bs : List ℕ) → isSimple (b ∷ bs) ≡ true → all (among symbolBytes) (b ∷ bs) ≡ true
+unfolding all
 simple-bytes b bs h =
-    rw (pass (among symbolBytes) symbolStarts b starts-among (both-left (among symbolStarts b) (every (among symbolBytes) bs) h))
-    (both-right (among symbolStarts b) (every (among symbolBytes) bs) h)
+    rw (pass (among symbolBytes) symbolStarts b starts-among (both-left (among symbolStarts b) (all (among symbolBytes) bs) h))
+    (both-right (among symbolStarts b) (all (among symbolBytes) bs) h)
 
 pub lex-simple : (x s : List ℕ) → isSimple x ≡ true → ended s ≡ true → lex (x ++ s) ≡ more (atom (name x)) (lex s)
 lex-simple [] s h e = absurd (false≢true h)
 lex-simple (b ∷ bs) s h e =
-    let a : every (among symbolBytes) (b ∷ bs) ≡ true = simple-bytes b bs h in
-    lex-name b bs s (start-class b (both-left (among symbolStarts b) (every (among symbolBytes) bs) h))
+    let a : all (among symbolBytes) (b ∷ bs) ≡ true = simple-bytes b bs h in
+    lex-name b bs s (start-class b (both-left (among symbolStarts b) (all (among symbolBytes) bs) h))
     (pass-all inSymbol symbolBytes (b ∷ bs) bytes-are a) (pass-all (λ (c : ℕ). ltb c 0x80) symbolBytes (b ∷ bs) bytes-low a) e
 
 -- the colon first
-colon-in : (x : List ℕ) → every inSymbol x ≡ true → every inSymbol (0x3A ∷ x) ≡ true
-unfolding every inSymbol classOf
+colon-in : (x : List ℕ) → all inSymbol x ≡ true → all inSymbol (0x3A ∷ x) ≡ true
+unfolding all inSymbol classOf
 colon-in x h = h
 
-colon-low : (x : List ℕ) → every (λ c. ltb c 0x80) x ≡ true → every (λ c. ltb c 0x80) (0x3A ∷ x) ≡ true
-unfolding every
+colon-low : (x : List ℕ) → all (λ c. ltb c 0x80) x ≡ true → all (λ c. ltb c 0x80) (0x3A ∷ x) ≡ true
+unfolding all
 colon-low x h = h
 
 pub lex-keyword : (x s : List ℕ) → run symbolBytes x ≡ true → ended s ≡ true → lex (0x3A ∷ (x ++ s)) ≡ more (atom (name (0x3A ∷ x))) (lex s)

@@ -17,7 +17,7 @@ use Rattle.words.specs.declared.digits.Parsed.the-variants.{Number}
 use Rattle.words.specs.Pair.{pairOf}
 use Rattle.words.specs.Radix.{baseOf, worth, isDigit}
 use Rattle.words.specs.Run as Run
-use Rattle.words.specs.Run.{digits, someByte, parsed}
+use Rattle.words.specs.Run.{someByte, parsed}
 use Rattle.words.specs.Extension.{extended}
 use Rattle.words.proofs.Numbers.{value-pair}
 use Rattle.lexicon.specs.Class.{classOf}
@@ -25,64 +25,60 @@ use Rattle.brackets.specs.Token.{Atom, bits, number, atom}
 use Rattle.tokens.specs.declared.lexeme.Kind.the-variants as K
 use Rattle.tokens.specs.Lexeme.{lexeme, bitVector, afterHash, whole}
 use Rattle.tokens.specs.Piece.{Piece, token, fromParsed, bitsOf, pieceOf, more, emit, lex}
-use Rattle.standard.specs.Bytes.{among, every, from, enders, binaryDigits, decimalDigits, hexadecimalDigits}
+use Rattle.ground.specs.Lists.{all}
+use Rattle.standard.specs.Bytes.{among, from, enders, binaryDigits, decimalDigits, hexadecimalDigits}
 use Rattle.standard.specs.Written.{run, isNumeral, ended}
 use Rattle.standard.proofs.Runs.{pass, pass-all, span-run}
 use Rattle.standard.proofs.Separators.{one-piece, at-class}
 
-every-digits : (r : Radix) (s : List ℕ) → every (isDigit r) s ≡ true → digits r s ≡ true
-unfolding digits every
-every-digits r [] h = refl
-every-digits r (b ∷ bs) h = rw (both-left (isDigit r b) (every (isDigit r) bs) h) (every-digits r bs (both-right (isDigit r b) (every (isDigit r) bs) h))
-
 -- a run of digits below 2^128 is a number
-module _ (r : Radix) (ds : List ℕ) (some : someByte ds ≡ true) (all : every (isDigit r) ds ≡ true) (small : Run.number (baseOf r) ds < 2 ^ 128) where
+module _ (r : Radix) (ds : List ℕ) (some : someByte ds ≡ true) (each : all (isDigit r) ds ≡ true) (small : Run.number (baseOf r) ds < 2 ^ 128) where
   parsed-is : parsed r ds ≡ Number (pairOf (Run.number (baseOf r) ds))
   unfolding parsed
-  parsed-is = rw (some, every-digits r ds all, lt-ltb (Run.number (baseOf r) ds) (2 ^ 128) small)
+  parsed-is = rw (some, each, lt-ltb (Run.number (baseOf r) ds) (2 ^ 128) small)
 
   from-is : (make : ℕ → Atom) → fromParsed (parsed r ds) make ≡ token (atom (make (Run.number (baseOf r) ds)))
   from-is make =
       ap (λ (p : Parsed). fromParsed p make) parsed-is ∙ ap (λ (n : ℕ). token (atom (make n))) (value-pair (Run.number (baseOf r) ds))
 
 -- no digit ends an atom
-stop : (r : Radix) → every (λ b. not (isDigit r b)) enders ≡ true
-unfolding every worth
+stop : (r : Radix) → all (λ b. not (isDigit r b)) enders ≡ true
+unfolding all worth
 stop Binary = refl
 stop Decimal = refl
 stop Hexadecimal = refl
 
-decimals-are : every (isDigit Decimal) decimalDigits ≡ true
-unfolding every from decimalDigits worth
+decimals-are : all (isDigit Decimal) decimalDigits ≡ true
+unfolding all from decimalDigits worth
 decimals-are = refl
 
-pub hexadecimals-are : every (isDigit Hexadecimal) hexadecimalDigits ≡ true
-unfolding every from decimalDigits hexadecimalDigits worth
+pub hexadecimals-are : all (isDigit Hexadecimal) hexadecimalDigits ≡ true
+unfolding all from decimalDigits hexadecimalDigits worth
 hexadecimals-are = refl
 
-pub binaries-are : every (isDigit Binary) binaryDigits ≡ true
-unfolding every worth
+pub binaries-are : all (isDigit Binary) binaryDigits ≡ true
+unfolding all worth
 binaries-are = refl
 
 digit-class : (b : ℕ) → among decimalDigits b ≡ true → classOf b ≡ 6
-unfolding every from decimalDigits classOf
+unfolding all from decimalDigits classOf
 digit-class b h = eqb-true (classOf b) 6 (pass (λ (c : ℕ). eqb (classOf c) 6) decimalDigits b refl h)
 
 numeral-run : (ds : List ℕ) → isNumeral ds ≡ true → run decimalDigits ds ≡ true
-unfolding every
+unfolding all
 numeral-run [] h = h
 numeral-run (b ∷ []) h = rw h
-numeral-run (b ∷ c ∷ cs) h = both-right (not (eqb b 0x30)) (every (among decimalDigits) (b ∷ c ∷ cs)) h
+numeral-run (b ∷ c ∷ cs) h = both-right (not (eqb b 0x30)) (all (among decimalDigits) (b ∷ c ∷ cs)) h
 
-starts : (b : ℕ) (bs : List ℕ) → every (among decimalDigits) (b ∷ bs) ≡ true → among decimalDigits b ≡ true
-unfolding every
-starts b bs h = both-left (among decimalDigits b) (every (among decimalDigits) bs) h
+starts : (b : ℕ) (bs : List ℕ) → all (among decimalDigits) (b ∷ bs) ≡ true → among decimalDigits b ≡ true
+unfolding all
+starts b bs h = both-left (among decimalDigits b) (all (among decimalDigits) bs) h
 
 decimal-run : (ds s : List ℕ) → run decimalDigits ds ≡ true → Run.number 10 ds < 2 ^ 128 → ended s ≡ true
     → lex (ds ++ s) ≡ more (atom (number (Run.number 10 ds))) (lex s)
 decimal-run [] s h small e = absurd (false≢true h)
 decimal-run (b ∷ bs) s h small e =
-    let all : every (isDigit Decimal) (b ∷ bs) ≡ true = pass-all (isDigit Decimal) decimalDigits (b ∷ bs) decimals-are h in
+    let all : all (isDigit Decimal) (b ∷ bs) ≡ true = pass-all (isDigit Decimal) decimalDigits (b ∷ bs) decimals-are h in
     one-piece b (bs ++ s) s (whole K.Number (length (b ∷ bs)))
     (ap (whole K.Number) (sym (span-run (isDigit Decimal) (b ∷ bs) s all (stop Decimal) e)) ∙ at-class 6 b (bs ++ s) (digit-class b (starts b bs h)))
     (drop-append-seam (b ∷ bs) s)
@@ -94,13 +90,13 @@ pub lex-numeral : (ds s : List ℕ) → isNumeral ds ≡ true → Run.number 10 
 lex-numeral ds s h small e = decimal-run ds s (numeral-run ds h) small e
 
 -- after `#` and the letter of its radix
-module _ (r : Radix) (m : ℕ) (allowed : List ℕ) (is : (t : List ℕ) → bitVector r t ≡ afterHash (m ∷ t)) (are : every (isDigit r) allowed ≡ true) where
+module _ (r : Radix) (m : ℕ) (allowed : List ℕ) (is : (t : List ℕ) → bitVector r t ≡ afterHash (m ∷ t)) (are : all (isDigit r) allowed ≡ true) where
   lex-vector : (ds s : List ℕ) → run allowed ds ≡ true → Run.number (baseOf r) ds < 2 ^ 128 → ended s ≡ true
       → lex (0x23 ∷ m ∷ (ds ++ s)) ≡ more (atom (bits (bitsOf r * length ds) (extended (bitsOf r * length ds) (Run.number (baseOf r) ds)))) (lex s)
   unfolding classOf
   lex-vector [] s h small e = absurd (false≢true h)
   lex-vector (d ∷ ds) s h small e =
-      let all : every (isDigit r) (d ∷ ds) ≡ true = pass-all (isDigit r) allowed (d ∷ ds) are h in
+      let all : all (isDigit r) (d ∷ ds) ≡ true = pass-all (isDigit r) allowed (d ∷ ds) are h in
       let n : suc (suc (length (d ∷ ds))) ≡ 2 + length (d ∷ ds) = omega arith in
       one-piece 0x23 (m ∷ ((d ∷ ds) ++ s)) s (lexeme (K.Bits r) 2 (length (d ∷ ds)) (suc (suc (length (d ∷ ds)))))
       (ap (λ (k : ℕ). lexeme (K.Bits r) 2 (length (d ∷ ds)) k) n

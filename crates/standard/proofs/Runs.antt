@@ -10,39 +10,40 @@ use lib.ListN.{length}
 use borrow.Author.Tests.{eqb-true, not-true}
 use Rattle.ground.proofs.Tests.{by-test, both-left, both-right}
 use Rattle.lexicon.specs.Span.{spanBy}
-use Rattle.standard.specs.Bytes.{among, every, enders}
+use Rattle.ground.specs.Lists.{all}
+use Rattle.standard.specs.Bytes.{among, enders}
 use Rattle.standard.specs.Written.{ended}
 
-pub pass : (test : ℕ → Bool) (xs : List ℕ) (b : ℕ) → every test xs ≡ true → among xs b ≡ true → test b ≡ true
-unfolding among every
+pub pass : (test : ℕ → Bool) (xs : List ℕ) (b : ℕ) → all test xs ≡ true → among xs b ≡ true → test b ≡ true
+unfolding among all
 pass test [] b h k = absurd (false≢true k)
 pass test (x ∷ xs) b h k =
     by-test (eqb b x)
-    (λ e. ap test (eqb-true b x e) ∙ both-left (test x) (every test xs) h)
-    (λ e. pass test xs b (both-right (test x) (every test xs) h) (rw e at k))
+    (λ e. ap test (eqb-true b x e) ∙ both-left (test x) (all test xs) h)
+    (λ e. pass test xs b (both-right (test x) (all test xs) h) (rw e at k))
 
-pub every-by : (test other : ℕ → Bool) → ((b : ℕ) → test b ≡ true → other b ≡ true) → (s : List ℕ) → every test s ≡ true → every other s ≡ true
-unfolding every
-every-by test other f [] h = refl
-every-by test other f (b ∷ bs) h =
-    rw (f b (both-left (test b) (every test bs) h)) (every-by test other f bs (both-right (test b) (every test bs) h))
+pub all-by : (test other : ℕ → Bool) → ((b : ℕ) → test b ≡ true → other b ≡ true) → (s : List ℕ) → all test s ≡ true → all other s ≡ true
+unfolding all
+all-by test other f [] h = refl
+all-by test other f (b ∷ bs) h =
+    rw (f b (both-left (test b) (all test bs) h)) (all-by test other f bs (both-right (test b) (all test bs) h))
 
-pub pass-all : (test : ℕ → Bool) (xs s : List ℕ) → every test xs ≡ true → every (among xs) s ≡ true → every test s ≡ true
-pass-all test xs s h k = every-by (among xs) test (λ b. pass test xs b h) s k
+pub pass-all : (test : ℕ → Bool) (xs s : List ℕ) → all test xs ≡ true → all (among xs) s ≡ true → all test s ≡ true
+pass-all test xs s h k = all-by (among xs) test (λ b. pass test xs b h) s k
 
 -- a run goes as far as its bytes pass
-pub span-over : (test : ℕ → Bool) (xs s : List ℕ) → every test xs ≡ true → spanBy test (xs ++ s) ≡ length xs + spanBy test s
-unfolding every spanBy
+pub span-over : (test : ℕ → Bool) (xs s : List ℕ) → all test xs ≡ true → spanBy test (xs ++ s) ≡ length xs + spanBy test s
+unfolding all spanBy
 span-over test [] s h = omega arith
 span-over test (x ∷ xs) s h =
-    rw (both-left (test x) (every test xs) h) (omega (arith, span-over test xs s (both-right (test x) (every test xs) h)))
+    rw (both-left (test x) (all test xs) h) (omega (arith, span-over test xs s (both-right (test x) (all test xs) h)))
 
 -- and stops at what ends an atom
-span-ended : (test : ℕ → Bool) (s : List ℕ) → every (λ b. not (test b)) enders ≡ true → ended s ≡ true → spanBy test s ≡ 0
+span-ended : (test : ℕ → Bool) (s : List ℕ) → all (λ b. not (test b)) enders ≡ true → ended s ≡ true → spanBy test s ≡ 0
 unfolding spanBy
 span-ended test [] h k = refl
 span-ended test (b ∷ bs) h k = rw (not-true (test b) (pass (λ b. not (test b)) enders b h k))
 
-pub span-run : (test : ℕ → Bool) (xs s : List ℕ) → every test xs ≡ true → every (λ b. not (test b)) enders ≡ true → ended s ≡ true
+pub span-run : (test : ℕ → Bool) (xs s : List ℕ) → all test xs ≡ true → all (λ b. not (test b)) enders ≡ true → ended s ≡ true
     → spanBy test (xs ++ s) ≡ length xs
 span-run test xs s h k e = omega (arith, span-over test xs s h, span-ended test s k e)

@@ -18,9 +18,10 @@ use Rattle.tokens.specs.declared.lexeme.Lexeme.{Lexeme}
 use Rattle.tokens.specs.Lexeme.{lexeme, single, byClass, lexemeAt}
 use Rattle.tokens.specs.Piece.{pieceOf, pieceAt, emit, lex}
 use Rattle.tokens.proofs.Lexes.{lex-at}
-use Rattle.standard.specs.Bytes.{among, every, whiteSpaces, lineEnds}
+use Rattle.ground.specs.Lists.{all}
+use Rattle.standard.specs.Bytes.{among, whiteSpaces, lineEnds}
 use Rattle.standard.specs.Limits.{lineFed}
-use Rattle.standard.proofs.Runs.{pass, every-by, span-over}
+use Rattle.standard.proofs.Runs.{pass, all-by, span-over}
 
 -- what stands first, and what is left
 pub one-piece : (b : ℕ) (bs rest : List ℕ) (l : Lexeme) → l ≡ lexemeAt (b ∷ bs) → drop (l .width) (b ∷ bs) ≡ rest
@@ -37,14 +38,14 @@ unfolding lexemeAt
 at-class k b bs e = sym (ap (λ (c : ℕ). byClass c b bs) e)
 
 white-class : (b : ℕ) → among whiteSpaces b ≡ true → classOf b ≡ 0
-unfolding every classOf
+unfolding all classOf
 white-class b h = eqb-true (classOf b) 0 (pass (λ (c : ℕ). eqb (classOf c) 0) whiteSpaces b refl h)
 
 pub lex-white : (b : ℕ) (s : List ℕ) → among whiteSpaces b ≡ true → lex (b ∷ s) ≡ lex s
 lex-white b s h = one-piece b s s (single Blank) (at-class 0 b s (white-class b h)) refl
 
 -- a comment's bytes, and what of the rest its line still has
-line : (x s : List ℕ) → every inLine x ≡ true → lex (0x3B ∷ (x ++ s)) ≡ lex (drop (lineSpan s) s)
+line : (x s : List ℕ) → all inLine x ≡ true → lex (0x3B ∷ (x ++ s)) ≡ lex (drop (lineSpan s) s)
 unfolding classOf
 line x s h =
     let n : suc (length x + lineSpan s) ≡ 1 + lineSpan (x ++ s) = omega (arith, span-over inLine x s h) in
@@ -73,10 +74,10 @@ feed : (e : ℕ) → eqb e 0x0A ≡ true → among whiteSpaces e ≡ true
 unfolding among
 feed e h = ap (among whiteSpaces) (eqb-true e 0x0A h)
 
-pub lex-comment : (x : List ℕ) (e : ℕ) (s : List ℕ) → every (λ b. not (among lineEnds b)) x ≡ true → lineFed e s ≡ true
+pub lex-comment : (x : List ℕ) (e : ℕ) (s : List ℕ) → all (λ b. not (among lineEnds b)) x ≡ true → lineFed e s ≡ true
     → lex (0x3B ∷ (x ++ (e ∷ s))) ≡ lex s
 lex-comment x e s h k =
-    line x (e ∷ s) (every-by (λ (b : ℕ). not (among lineEnds b)) inLine in-line x h)
+    line x (e ∷ s) (all-by (λ (b : ℕ). not (among lineEnds b)) inLine in-line x h)
     ∙ by-test (eqb e 0x0A)
     (λ t. ap (λ (n : ℕ). lex (drop n (e ∷ s))) (stops e s t) ∙ lex-white e s (feed e t))
     (λ t. ap (λ (n : ℕ). lex (drop n (e ∷ s))) (goes e s t (fed e s t k)))

@@ -17,7 +17,8 @@ use Rattle.words.specs.Run.{from, number}
 use Rattle.words.specs.Extension.{signed, extended}
 use Rattle.words.proofs.Extends.{extended-wide}
 use Rattle.words.proofs.Signs.{signed-low, sign-kept}
-use Rattle.standard.specs.Bytes.{every, binaryDigits, hexadecimalDigits}
+use Rattle.ground.specs.Lists.{all}
+use Rattle.standard.specs.Bytes.{binaryDigits, hexadecimalDigits}
 use Rattle.standard.specs.Written.{run}
 use Rattle.standard.specs.Limits.{Narrow}
 use Rattle.standard.proofs.Runs.{pass-all}
@@ -25,17 +26,17 @@ use Rattle.standard.proofs.Numbers.{binaries-are, hexadecimals-are}
 
 module _ (r : Radix) (per : ℕ) (step : (n x d : ℕ) → n < x → d < baseOf r → n * baseOf r + d < x * 2 ^ per) where
   -- so many digits stand for a number of so many bits
-  below : (ds : List ℕ) (n x : ℕ) → every (isDigit r) ds ≡ true → n < x → from (baseOf r) n ds < x * 2 ^ (per * length ds)
-  unfolding from every
+  below : (ds : List ℕ) (n x : ℕ) → all (isDigit r) ds ≡ true → n < x → from (baseOf r) n ds < x * 2 ^ (per * length ds)
+  unfolding from all
   below [] n x h l = subst (λ (k : ℕ). n < k) (sym (ap (λ (e : ℕ). x * 2 ^ e) (mul-zero per) ∙ mul-one x)) l
   below (b ∷ bs) n x h l =
       let e : per + per * length bs ≡ per * suc (length bs) = add-comm per (per * length bs) ∙ sym (mul-suc per (length bs)) in
       subst (λ (k : ℕ). from (baseOf r) (n * baseOf r + worth b) bs < k)
       (mul-assoc x (2 ^ per) (2 ^ (per * length bs)) ∙ ap (λ (k : ℕ). x * k) (sym (pow-add 2 per (per * length bs)) ∙ ap (λ (k : ℕ). 2 ^ k) e))
-      (below bs (n * baseOf r + worth b) (x * 2 ^ per) (both-right (isDigit r b) (every (isDigit r) bs) h)
-      (step n x (worth b) l (ltb-true (worth b) (baseOf r) (both-left (isDigit r b) (every (isDigit r) bs) h))))
+      (below bs (n * baseOf r + worth b) (x * 2 ^ per) (both-right (isDigit r b) (all (isDigit r) bs) h)
+      (step n x (worth b) l (ltb-true (worth b) (baseOf r) (both-left (isDigit r b) (all (isDigit r) bs) h))))
 
-  fits : (ds : List ℕ) → every (isDigit r) ds ≡ true → number (baseOf r) ds < 2 ^ (per * length ds)
+  fits : (ds : List ℕ) → all (isDigit r) ds ≡ true → number (baseOf r) ds < 2 ^ (per * length ds)
   fits ds h = subst (λ (k : ℕ). number (baseOf r) ds < k) (one-mul (2 ^ (per * length ds))) (below ds 0 1 h (omega arith))
 
 kept : (w n : ℕ) → 0 < w → n < 2 ^ w → Narrow w n → signed 128 (extended w n) ≡ signed w n

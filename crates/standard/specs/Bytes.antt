@@ -1,5 +1,5 @@
 -- SMT-LIB 2.7 §3.1, the lexicon: the characters that tokens are made of, as lists of bytes.
-use mathlib.Core.Bool.{Bool, true, false, _&&_, _||_}
+use mathlib.Core.Bool.{Bool, false, _&&_, _||_}
 use mathlib.Core.List.{List, [], _∷_, _++_}
 use Prim.Native.Nat.{ℕ, zero, suc}
 use lib.Dec.{leb, eqb}
@@ -7,10 +7,6 @@ use lib.Dec.{leb, eqb}
 unfoldable pub among : List ℕ → ℕ → Bool
 among [] b = false
 among (x ∷ xs) b = eqb b x || among xs b
-
-unfoldable pub every : (ℕ → Bool) → List ℕ → Bool
-every test [] = true
-every test (b ∷ bs) = test b && every test bs
 
 -- so many bytes from one on
 unfoldable pub from : ℕ → ℕ → List ℕ

@@ -8,7 +8,7 @@ use lib.ListN.{length}
 use Rattle.refusals.specs.declared.Refusal.the-variants.{UnexpectedEnd, StringParseError, ParseIntError, TrailingTokens}
 use Rattle.words.specs.Radix.{worth}
 use Rattle.words.specs.Run as Run
-use Rattle.words.specs.Run.{digits, parsed}
+use Rattle.words.specs.Run.{parsed}
 use Rattle.words.specs.Extension.{signed, extended}
 use Rattle.utf8.specs.Octets.{octets, utf8}
 use Rattle.utf8.specs.Encoding.{scalar, encoded}
@@ -26,7 +26,8 @@ use Rattle.brackets.specs.Walk.{Outcome, tree, refused}
 use Rattle.tokens.specs.Lexeme.{inside, lexemeAt}
 use Rattle.tokens.specs.Piece.{pieceAt, lexAfter}
 use Rattle.reader.specs.Read.{parse}
-use Rattle.standard.specs.Bytes.{among, every, from, decimalDigits, hexadecimalDigits, symbolStarts, symbolBytes}
+use Rattle.ground.specs.Lists.{all}
+use Rattle.standard.specs.Bytes.{among, from, decimalDigits, hexadecimalDigits, symbolStarts, symbolBytes}
 use Rattle.standard.specs.Written.{numeral, decimal, hexadecimal, literal, simple, barred, keyword, empty, byte, doubled, nothing, white, comment, opening, closing, token, Expression, one, several, none, first, Written}
 use Rattle.standard.specs.Image.{image}
 
@@ -34,7 +35,7 @@ use Rattle.standard.specs.Image.{image}
 sample : Written
     (several (first (one (simple (bytes "a"))) (first (one (hexadecimal (bytes "F"))) (first (one (literal (bytes "\"\""))) (first (one (keyword (bytes "b"))) none)))))
     (bytes "(a #xF;!\r\n\"\"\"\" :b)")
-unfolding among every from decimalDigits hexadecimalDigits symbolStarts symbolBytes
+unfolding among all from decimalDigits hexadecimalDigits symbolStarts symbolBytes
 sample =
     opening (token (simple (bytes "a")) refl refl (white refl (token (hexadecimal (bytes "F")) refl refl
     (comment (bytes "!") 0x0D refl refl (white refl (token (literal (bytes "\"\"")) (doubled empty) refl
@@ -56,7 +57,7 @@ unfolding parse lexAfter pieceAt lexemeAt classOf spanBy inLine
 return-read = refl
 
 pub lone-return : Departs (one (simple (bytes "a"))) (bytes ";\ra")
-unfolding among every from decimalDigits symbolStarts symbolBytes
+unfolding among all from decimalDigits symbolStarts symbolBytes
 lone-return = record {
   written = comment [] 0x0D refl refl (token (simple (bytes "a")) refl refl nothing);
   other = λ e. let n : _≡_ {A = ℕ} 0 2 = ap size (sym return-read ∙ e) in omega arith;
@@ -64,11 +65,11 @@ lone-return = record {
 
 -- `0.0`: a numeral, and a symbol after it
 decimal-read : parse (bytes "0.0") ≡ refused TrailingTokens
-unfolding parse lexAfter pieceAt lexemeAt classOf spanBy inSymbol parsed digits Run.from worth utf8 octets
+unfolding parse lexAfter pieceAt lexemeAt classOf spanBy inSymbol parsed all Run.from worth utf8 octets
 decimal-read = refl
 
 pub a-decimal : Departs (one (decimal (bytes "0") (bytes "0"))) (bytes "0.0")
-unfolding among every from decimalDigits
+unfolding among all from decimalDigits
 a-decimal = record {
   written = token (decimal (bytes "0") (bytes "0")) (refl, refl) refl nothing;
   other = λ e. let n : _≡_ {A = ℕ} 0 4 = ap size (sym decimal-read ∙ e) in omega arith;
@@ -80,7 +81,7 @@ unfolding parse lexAfter pieceAt lexemeAt classOf spanBy inSymbol utf8 octets
 bars-read = refl
 
 pub a-barred : Departs (one (barred [])) (bytes "||")
-unfolding every
+unfolding all
 a-barred = record {
   written = token (barred []) refl refl nothing;
   other = λ e. let n : _≡_ {A = ℕ} 3 1 = ap size (sym bars-read ∙ e) in omega arith;
@@ -88,11 +89,11 @@ a-barred = record {
 
 -- 2^128
 large-read : parse (bytes "340282366920938463463374607431768211456") ≡ refused ParseIntError
-unfolding parse lexAfter pieceAt lexemeAt classOf spanBy parsed digits Run.from worth
+unfolding parse lexAfter pieceAt lexemeAt classOf spanBy parsed all Run.from worth
 large-read = refl
 
 pub too-large : Departs (one (numeral (bytes "340282366920938463463374607431768211456"))) (bytes "340282366920938463463374607431768211456")
-unfolding among every from decimalDigits
+unfolding among all from decimalDigits
 too-large = record {
   written = token (numeral (bytes "340282366920938463463374607431768211456")) refl refl nothing;
   other = λ e. let n : _≡_ {A = ℕ} 0 1 = ap size (sym large-read ∙ e) in omega arith;

@@ -6,7 +6,7 @@ use Prim.Native.Nat.{ℕ, _<_, _^_}
 use lib.Dec.{ltb, eqb}
 use Rattle.words.specs.Run.{number}
 use Rattle.theory.specs.Agreement.{noSixDigits, noSurrogate}
-use Rattle.standard.specs.Bytes.{every}
+use Rattle.ground.specs.Lists.{all}
 use Rattle.standard.specs.Written.{Atom, numeral, decimal, hexadecimal, binary, literal, simple, barred, keyword, Expression, Expressions, one, several, none, first, Token, Spells, nothing, white, comment, opening, closing, token}
 
 -- LIMIT: a numeral or bit vector of 2^128 or more is refused (4)
@@ -15,7 +15,7 @@ Small base ds = number base ds < 2 ^ 128
 
 -- DEPARTURE: a byte from 80 hex on in a literal is the code point of its number, not a part of a character's UTF-8
 abbrev pub noRawByte : List ℕ → Bool
-noRawByte s = every (λ b. ltb b 0x80) s
+noRawByte s = all (λ b. ltb b 0x80) s
 
 pub record Plain (s : List ℕ) : Type 0 where
   pub raw : noRawByte s ≡ true

@@ -4,7 +4,8 @@ use mathlib.Core.Bool.{Bool, true, false, not, _&&_, _||_}
 use mathlib.Core.List.{List, [], _∷_, _++_}
 use Prim.Native.Nat.{ℕ}
 use lib.Dec.{eqb}
-use Rattle.standard.specs.Bytes.{among, every, whiteSpaces, lineEnds, enders, binaryDigits, decimalDigits, hexadecimalDigits, symbolStarts, symbolBytes, printable}
+use Rattle.ground.specs.Lists.{all}
+use Rattle.standard.specs.Bytes.{among, whiteSpaces, lineEnds, enders, binaryDigits, decimalDigits, hexadecimalDigits, symbolStarts, symbolBytes, printable}
 
 -- each with its digits or its bytes, without what marks its kind
 pub data Atom : Type 0 where
@@ -30,18 +31,18 @@ spelling (keyword s) = 0x3A ∷ s
 -- a non-empty run
 abbrev pub run : List ℕ → List ℕ → Bool
 run allowed [] = false
-run allowed (b ∷ bs) = every (among allowed) (b ∷ bs)
+run allowed (b ∷ bs) = all (among allowed) (b ∷ bs)
 
 -- `0`, or a non-empty run of digits that does not start with `0`
 abbrev pub isNumeral : List ℕ → Bool
 isNumeral [] = false
 isNumeral (b ∷ []) = among decimalDigits b
-isNumeral (b ∷ c ∷ cs) = not (eqb b 0x30) && every (among decimalDigits) (b ∷ c ∷ cs)
+isNumeral (b ∷ c ∷ cs) = not (eqb b 0x30) && all (among decimalDigits) (b ∷ c ∷ cs)
 
 -- a non-empty run that starts with no digit
 abbrev pub isSimple : List ℕ → Bool
 isSimple [] = false
-isSimple (b ∷ bs) = among symbolStarts b && every (among symbolBytes) bs
+isSimple (b ∷ bs) = among symbolStarts b && all (among symbolBytes) bs
 
 -- printable and white space bytes, a quote only doubled
 pub data Inside : List ℕ → Type 0 where
@@ -61,7 +62,7 @@ WellFormed (hexadecimal ds) = run hexadecimalDigits ds ≡ true
 WellFormed (binary ds) = run binaryDigits ds ≡ true
 WellFormed (literal s) = Inside s
 WellFormed (simple s) = isSimple s ≡ true
-WellFormed (barred s) = every inBars s ≡ true
+WellFormed (barred s) = all inBars s ≡ true
 WellFormed (keyword s) = run symbolBytes s ≡ true
 
 pub data Token : Type 0 where
@@ -78,7 +79,7 @@ ended (b ∷ bs) = among enders b
 pub data Spells : List Token → List ℕ → Type 0 where
   nothing : Spells [] []
   white : {ts : List Token} {b : ℕ} {s : List ℕ} → among whiteSpaces b ≡ true → Spells ts s → Spells ts (b ∷ s)
-  comment : {ts : List Token} (x : List ℕ) (e : ℕ) {s : List ℕ} → every (λ b. not (among lineEnds b)) x ≡ true → among lineEnds e ≡ true
+  comment : {ts : List Token} (x : List ℕ) (e : ℕ) {s : List ℕ} → all (λ b. not (among lineEnds b)) x ≡ true → among lineEnds e ≡ true
       → Spells ts s → Spells ts (0x3B ∷ (x ++ (e ∷ s)))
   opening : {ts : List Token} {s : List ℕ} → Spells ts s → Spells (opens ∷ ts) (0x28 ∷ s)
   closing : {ts : List Token} {s : List ℕ} → Spells ts s → Spells (closes ∷ ts) (0x29 ∷ s)

@@ -1,9 +1,9 @@
 -- The same for the lines of a script: none is as long as 2 ^ 56.
 -- Assumes nothing.
-use mathlib.Core.Path.{_≡_, refl, sym, ap, _∙_}
+use mathlib.Core.Path.{_≡_, refl, ap}
 use mathlib.Core.Bool.{Bool, true, false, cond, _&&_}
 use mathlib.Core.List.{List, [], _∷_, _++_, map}
-use Prim.Native.Nat.{ℕ, _+_, _-_, _*_, _/_, _%_, _^_, _≤_, _<_}
+use Prim.Native.Nat.{ℕ, _+_, _-_, _%_, _^_, _≤_, _<_}
 use native.Mathlib.Omega.{arith}
 use lib.Dec.{leb, eqb}
 use lib.ListN.{length}
@@ -13,7 +13,7 @@ use Rattle.ground.proofs.Tests.{by-test, both-parts}
 use Rattle.refusals.specs.declared.Refusal.the-variants.{OutRoom}
 use Rattle.lent.specs.Left.{writing}
 use Rattle.parts.specs.Limit.{inputLimit, tooLong}
-use Rattle.parts.specs.Parts.{parts, paired, endsRight, pairsRight, lastFrom}
+use Rattle.parts.specs.Parts.{parts, paired, endsRight, pairsRight}
 use Rattle.parts.specs.Texts.{spaced, pair}
 use Rattle.parts.proofs.Limits.{Short, all-short}
 use Rattle.parts.proofs.Spaces.{length-spaced}

@@ -9,7 +9,7 @@ use lib.Dec.{leb, ltb}
 use lib.ListN.{length, length-append}
 use borrow.Author.Tests.{leb-true}
 use Rattle.ground.specs.Lists.{all}
-use Rattle.ground.proofs.Tests.{by-order, both-left, both-right}
+use Rattle.ground.proofs.Tests.{by-order, both-left, both-right, by-cond}
 use Rattle.tables.specs.Sort.{Sort, bool, string, ext, bitVec, optionOf, setOf, entityOf, recordOf, Tables}
 use Rattle.tables.specs.Layout.{Lent}
 use Rattle.tables.specs.Rules.{fieldLimit, ownName, sortRight, sortsRight}
@@ -21,7 +21,7 @@ use Rattle.tables_text.specs.Read.{textLimit, Spells, Buffers, Left, fitted, Re
 use Rattle.tables_text.proofs.Parses.{table-long, sorts-long}
 use Rattle.tables_text.proofs.Readings.{by-spelling}
 use Rattle.told.specs.Yields.{tablesRead}
-use Rattle.stazzumpi.proofs.Needs.{Small, by-cond}
+use Rattle.stazzumpi.proofs.Needs.{Small}
 
 fields-few : (i : ℕ) (s : Sort) → sortRight i s ≡ true → length (fieldsOf s) ≤ fieldLimit
 fields-few i bool h = omega arith
@@ -71,15 +71,15 @@ SmallLeft left = Small (tablesRead (left .answer))
 fitted-small : (entry : Buffers) (l : Lent) → Few l → SmallLeft (fitted entry l)
 unfolding fitted
 fitted-small entry l few =
-    by-cond (leb (length (l .sorts)) (length (entry .sorts))) SmallLeft
-    (by-cond (leb (length (l .fields)) (length (entry .fields))) SmallLeft
-    (by-cond (leb (length (l .variables)) (length (entry .variables))) SmallLeft
-    (by-cond (leb (length (l .functions)) (length (entry .functions))) SmallLeft
-    (by-cond (leb (length (l .members)) (length (entry .members))) SmallLeft tt (few .members))
-    (few .functions))
-    (few .variables))
-    (few .fields))
-    (few .sorts)
+    by-cond SmallLeft (leb (length (l .sorts)) (length (entry .sorts))) _ _
+    (λ _. by-cond SmallLeft (leb (length (l .fields)) (length (entry .fields))) _ _
+    (λ _. by-cond SmallLeft (leb (length (l .variables)) (length (entry .variables))) _ _
+    (λ _. by-cond SmallLeft (leb (length (l .functions)) (length (entry .functions))) _ _
+    (λ _. by-cond SmallLeft (leb (length (l .members)) (length (entry .members))) _ _ (λ _. tt) (λ _. few .members))
+    (λ _. few .functions))
+    (λ _. few .variables))
+    (λ _. few .fields))
+    (λ _. few .sorts)
 
 pub read-tables-small : (text : List ℕ) (entry : Buffers) (r : TablesRead) (exit : Buffers) → Reads text entry r exit → Small (tablesRead r)
 read-tables-small text entry r exit d =

@@ -1,7 +1,7 @@
 -- The answers of decode_string, in their order: 9, 3, 11, the length.
 -- Assumes nothing.
-use mathlib.Core.Path.{_≡_, refl, sym, ap, _∙_, subst}
-use mathlib.Core.Bool.{Bool, true, false, cond}
+use mathlib.Core.Path.{_≡_}
+use mathlib.Core.Bool.{true, false, cond}
 use mathlib.Core.List.{List}
 use Prim.Native.Nat.{ℕ, _≤_, _<_}
 use native.Mathlib.Omega.{arith}
@@ -10,9 +10,8 @@ use borrow.Author.Tests.{le-leb, lt-leb}
 use Rattle.ground.proofs.Tests.{by-test}
 use Rattle.refusals.specs.declared.Refusal.the-variants.{StringParseError, InputTooLong, TextRoom}
 use Rattle.lent.specs.declared.Written.the-variants.{Length, Refused}
-use Rattle.lent.specs.Left.{Left, onto, refusing, writing, Leaves}
+use Rattle.lent.specs.Left.{onto, refusing, writing, Leaves}
 use Rattle.lent.proofs.Lefts.{leaves-refused, leaves-text, leaves-short}
-use Rattle.strings.specs.declared.text.Measured.{Measured}
 use Rattle.strings.specs.declared.text.Measured.the-variants.{Text, Surrogate}
 use Rattle.strings.specs.Points.{points}
 use Rattle.strings.specs.Text.{text, anySurrogate, measured, decoded}

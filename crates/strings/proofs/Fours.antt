@@ -1,17 +1,15 @@
 -- Exactly four digits.
 -- Assumes nothing.
-use mathlib.Core.Path.{_≡_, refl, sym, ap, _∙_, subst}
-use mathlib.Core.Bool.{Bool, cond}
+use mathlib.Core.Path.{_≡_, sym, ap, _∙_}
 use mathlib.Core.List.{List, [], _∷_}
-use Prim.Native.Nat.{ℕ, suc, min, _+_, _-_, _*_, _≤_, _<_}
+use Prim.Native.Nat.{ℕ, _+_, _-_, _*_, _≤_, _<_}
 use native.Mathlib.Omega.{arith}
-use lib.Dec.{eqb}
 use lib.ListN.{length, getD, take, drop, length-take, length-drop}
 use borrow.Author.Tests.{ne-eqb}
 use Rattle.ground.proofs.Lists.{at-place}
 use Rattle.ground.proofs.Tests.{by-order}
 use Rattle.words.specs.Radix.{worth}
-use Rattle.words.specs.Run.{from, number}
+use Rattle.words.specs.Run.{from}
 use Rattle.strings.specs.declared.escape.Escape.{Escape}
 use Rattle.strings.specs.declared.escape.Escape.the-variants.{Point, Plain}
 use Rattle.strings.specs.Escape.{hexRun, fourDigits}

@@ -1,18 +1,17 @@
 -- How many bytes a character takes in the string and in the text.
 -- Assumes nothing.
-use mathlib.Core.Path.{_≡_, refl, sym, ap, _∙_, subst}
+use mathlib.Core.Path.{_≡_, refl}
 use mathlib.Core.Bool.{Bool, true, false, cond, _&&_}
-use mathlib.Core.List.{List, [], _∷_, _++_}
-use Prim.Native.Nat.{ℕ, zero, suc, min, _+_, _*_, _≤_, _<_}
+use mathlib.Core.List.{List, [], _∷_}
+use Prim.Native.Nat.{ℕ, zero, suc, _+_, _*_, _≤_, _<_}
 use native.Mathlib.Omega.{arith}
 use lib.Dec.{leb, eqb}
-use lib.ListN.{length, take, drop, length-append, length-take, length-drop, drop-of-length-le}
-use borrow.Author.Tests.{eqb-true, eq-eqb, ne-eqb}
+use lib.ListN.{length, take, drop, length-take, drop-of-length-le}
+use borrow.Author.Tests.{eqb-true}
 use Rattle.ground.proofs.Tests.{by-order, by-test, and-false}
 use Rattle.words.specs.Run.{number}
 use Rattle.utf8.specs.Encoding.{encoded, bytesOf}
 use Rattle.utf8.proofs.Encodings.{encoded-length-le, encoded-length-two}
-use Rattle.strings.specs.declared.escape.Braced.{Braced}
 use Rattle.strings.specs.declared.escape.Braced.the-variants.{Closed, Failed}
 use Rattle.strings.specs.declared.escape.Escape.{Escape}
 use Rattle.strings.specs.declared.escape.Escape.the-variants.{Point, Plain}

@@ -1,11 +1,11 @@
 -- The text of a string that is not refused: it is UTF-8, and at most twice as long as the string.
 -- Assumes nothing.
-use mathlib.Core.Path.{_≡_, refl, sym, ap, _∙_, subst}
+use mathlib.Core.Path.{_≡_}
 use mathlib.Core.Bool.{true}
-use mathlib.Core.List.{List, [], _∷_, _++_}
+use mathlib.Core.List.{List, [], _∷_}
 use Prim.Native.Nat.{ℕ, zero, suc, _+_, _*_, _≤_, _<_}
 use native.Mathlib.Omega.{arith}
-use lib.ListN.{length, getD, length-append}
+use lib.ListN.{length, length-append}
 use Rattle.utf8.specs.Encoding.{encoded, bytesOf}
 use Rattle.utf8.specs.Octets.{utf8}
 use Rattle.utf8.proofs.Concatenations.{utf8-nil, utf8-append}

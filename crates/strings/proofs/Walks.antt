@@ -1,7 +1,7 @@
 -- A string walked character by character: what is left of it, and what is left of its text.
 -- Assumes nothing.
 use mathlib.Core.Path.{_≡_, refl, sym, ap, _∙_, subst}
-use mathlib.Core.Bool.{Bool, true, false, cond, not, _||_}
+use mathlib.Core.Bool.{true, false, not, _||_}
 use mathlib.Core.List.{List, [], _∷_, _++_, append-assoc, append-nil}
 use Prim.Native.Nat.{ℕ, zero, suc, _+_, _*_, _≤_, _<_}
 use native.Mathlib.Omega.{arith}
@@ -16,7 +16,6 @@ use Rattle.utf8.specs.declared.Encoded.{Encoded}
 use Rattle.utf8.specs.Encoding.{scalar, encoded, bytesOf}
 use Rattle.utf8.proofs.Encodings.{no-bytes}
 use Rattle.strings.specs.declared.character.Character.{Character}
-use Rattle.strings.specs.declared.text.Measured.{Measured}
 use Rattle.strings.specs.declared.text.Measured.the-variants.{Text, Surrogate}
 use Rattle.strings.specs.Points.{characterAt, pointsAfter, points}
 use Rattle.strings.specs.Text.{encodings, text, anySurrogate, measured}

@@ -1,5 +1,5 @@
 -- Unicode Strings theory, escapes; document 01, "Bytes to tokens", `\u`: what the bytes after a backslash stand for.
-use mathlib.Core.Bool.{Bool, true, false, cond, _&&_}
+use mathlib.Core.Bool.{Bool, false, cond, _&&_}
 use mathlib.Core.List.{List, [], _∷_}
 use Prim.Native.Nat.{ℕ, _+_}
 use lib.Dec.{leb, ltb, eqb}

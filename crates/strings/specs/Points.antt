@@ -1,5 +1,5 @@
 -- SMT-LIB 2.7 §3.1, string literal, with the Unicode Strings theory: the code points of what stands between two quotes.
-use mathlib.Core.Bool.{Bool, cond}
+use mathlib.Core.Bool.{cond}
 use mathlib.Core.List.{List, [], _∷_}
 use Prim.Native.Nat.{ℕ, zero, suc}
 use lib.Dec.{eqb}

@@ -1,6 +1,6 @@
 -- Document 01, "Samples at the edges": the strings among them, as one table. Each line is the inside of the quotes and its text.
 use mathlib.Core.Path.{_≡_, refl}
-use mathlib.Core.Bool.{Bool, true, false}
+use mathlib.Core.Bool.{true, false}
 use mathlib.Core.List.{List, [], _∷_, map}
 use Prim.Native.Nat.{ℕ}
 use Prim.Native.String.{String}

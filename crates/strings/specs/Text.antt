@@ -1,5 +1,5 @@
 -- Document 01, "Bytes to tokens" and "Numbers given back": the text is the UTF-8 of the code points; 9, 3, 11 in this order.
-use mathlib.Core.Bool.{Bool, true, false, cond, not, _||_}
+use mathlib.Core.Bool.{Bool, false, cond, not, _||_}
 use mathlib.Core.List.{List, [], _∷_, _++_}
 use Prim.Native.Nat.{ℕ}
 use lib.Dec.{leb}

@@ -1,7 +1,7 @@
 -- What tables that pass the check are known to keep, table by table and row by row.
 -- Assumes nothing.
-use mathlib.Core.Path.{_≡_, refl, sym, ap, _∙_}
-use mathlib.Core.Bool.{Bool, true, false, _&&_, true≢false}
+use mathlib.Core.Path.{_≡_, sym, ap, _∙_}
+use mathlib.Core.Bool.{Bool, true, _&&_}
 use mathlib.Core.List.{List, [], _∷_}
 use mathlib.Core.Option.{some}
 use Prim.Native.Nat.{ℕ, zero, suc, _+_, _≤_}
@@ -16,7 +16,7 @@ use Rattle.refusals.specs.declared.Refusal.the-variants.{BadTable}
 use Rattle.arena.specs.Text.{sameText}
 use Rattle.tables.specs.declared.check.Checked.the-variants.{Passed, Refused}
 use Rattle.tables.specs.Sort.{Sort, Variable, Function, Member, Tables}
-use Rattle.tables.specs.Layout.{Lent, tablesOf, formed}
+use Rattle.tables.specs.Layout.{Lent}
 use Rattle.tables.specs.Rules.{rowLimit, sortRight, sortsRight, sameSort, variableRight, functionRight, memberRight, table, lawful}
 use Rattle.tables.specs.Check.{passes, checked}
 use Rattle.tables.proofs.Places.{none-some, some-one}
@@ -78,15 +78,6 @@ module _ (t : Tables) where
         functions = tabled (functionRight t) (λ f g. sameText (f .name) (g .name)) (t .functions) (both-right (sorts-kept && variables-kept) functions-kept e3);
         members = tabled (memberRight t) (λ m n. sameText (m .name) (n .name)) (t .members) (both-right (sorts-kept && variables-kept && functions-kept) members-kept e);
       }
-
-module _ (l : Lent) (e : passes l ≡ true) where
-  pub passes-formed : formed l ≡ true
-  unfolding passes
-  passes-formed = both-left (formed l) (lawful (tablesOf l)) e
-
-  pub passes-lawful : Lawful (tablesOf l)
-  unfolding passes
-  passes-lawful = lawful-parts (tablesOf l) (both-right (formed l) (lawful (tablesOf l)) e)
 
 -- the check's answer is yes of such tables alone
 pub passed-passes : (l : Lent) → checked l ≡ Passed → passes l ≡ true

@@ -90,13 +90,6 @@ same-one : (a b : ℕ) → sameText (a ∷ []) (b ∷ []) ≡ eqb b a
 unfolding sameText
 same-one a b = and-true (eqb a b) ∙ eqb-sym a b
 
--- kinds without a name
-pub plain-low : (kind : ℕ) → hasName kind ≡ false → (kind ≡ 0 → ⊥)
-plain-low kind e h = eqb-false kind 0 (or-left (eqb kind 0) (leb 9 kind) e) h where
-  or-left : (a b : Bool) → (a || b) ≡ false → a ≡ false
-  or-left true b e = e
-  or-left false b e = refl
-
 pub plain-high : (kind : ℕ) → hasName kind ≡ false → kind < 9
 plain-high kind e = leb-false 9 kind (or-right (eqb kind 0) (leb 9 kind) e) where
   or-right : (a b : Bool) → (a || b) ≡ false → b ≡ false

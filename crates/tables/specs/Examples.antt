@@ -8,7 +8,7 @@ use Rattle.ground.specs.Lists.{any, all, distinct, find, at, tabulate}
 use Rattle.utf8.specs.Octets.{octets, utf8}
 use Rattle.lexicon.specs.Class.{classOf}
 use Rattle.lexicon.specs.Span.{inSymbol}
-use Rattle.lexicon.specs.Symbol.{every, oneSymbol}
+use Rattle.lexicon.specs.Symbol.{oneSymbol}
 use Rattle.arena.specs.Text.{sameText}
 use Rattle.tables.specs.Sort.{bool, string, bitVec, optionOf, setOf, entityOf, recordOf}
 use Rattle.tables.specs.Layout.{Lent, tablesOf, formed}
@@ -23,12 +23,12 @@ kept-words = refl
 
 -- with a bracket, a number, nothing, and one symbol
 names : map nameRight (bytes "a(" ∷ bytes "1a" ∷ [] ∷ bytes "a1" ∷ []) ≡ false ∷ false ∷ false ∷ true ∷ []
-unfolding oneSymbol every inSymbol classOf utf8 octets
+unfolding oneSymbol all inSymbol classOf utf8 octets
 names = refl
 
 -- `_` is one symbol, but no sort's name
 own-names : map ownName (bytes "_" ∷ bytes "__" ∷ []) ≡ false ∷ true ∷ []
-unfolding oneSymbol every inSymbol classOf utf8 octets kept keptWords any sameText
+unfolding oneSymbol all inSymbol classOf utf8 octets kept keptWords any sameText
 own-names = refl
 
 -- widths 0, 128 and 129; an option of itself and of a lower row; a record with itself as a field
@@ -41,7 +41,7 @@ sort-rows : map (sortsRight 0)
     ∷ (bool ∷ recordOf (bytes "R") (0 ∷ 1 ∷ []) ∷ [])
     ∷ [])
     ≡ false ∷ true ∷ false ∷ false ∷ true ∷ false ∷ []
-unfolding sortsRight all oneSymbol every inSymbol classOf utf8 octets kept keptWords any sameText
+unfolding sortsRight all oneSymbol inSymbol classOf utf8 octets kept keptWords any sameText
 sort-rows = refl
 
 -- widths tell bit vectors apart; an entity and a record share names
@@ -74,7 +74,7 @@ sample =
     }
 
 lawful-sample : passes sample ≡ true
-unfolding sample passes formed lawful tablesOf tabulate all distinct any at sortsRight sameText oneSymbol every inSymbol classOf utf8 octets kept keptWords
+unfolding sample passes formed lawful tablesOf tabulate all distinct any at sortsRight sameText oneSymbol inSymbol classOf utf8 octets kept keptWords
 lawful-sample = refl
 
 found-rows : sortRow (tablesOf sample) (optionOf 1) ∷ sortRow (tablesOf sample) (optionOf 0) ∷ namedSort (tablesOf sample) (bytes "R") ∷ variableRow (tablesOf sample) (bytes "x") ∷ []

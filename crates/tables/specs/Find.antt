@@ -6,7 +6,7 @@ use Rattle.ground.specs.Lists.{find}
 use Rattle.arena.specs.Text.{sameText}
 use Rattle.tables.specs.declared.find.Found.{Found}
 use Rattle.tables.specs.declared.find.Found.the-variants.{Row, NoRow}
-use Rattle.tables.specs.Sort.{Sort, entityOf, Variable, Function, Member, Tables}
+use Rattle.tables.specs.Sort.{Sort, entityOf, Tables}
 use Rattle.tables.specs.Rules.{sameSort}
 
 -- the answer of a call

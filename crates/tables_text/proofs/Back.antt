@@ -5,7 +5,6 @@ use mathlib.Core.Bool.{Bool, true, false, _&&_, true≢false}
 use mathlib.Core.List.{List, [], _∷_, _++_, map, append-assoc, append-nil}
 use mathlib.Core.Option.{Option, none, some}
 use Prim.Native.Nat.{ℕ, zero, suc, _+_, _-_, _≤_, _<_}
-use Prim.Native.String.{String}
 use native.Mathlib.Omega.{arith}
 use lib.Dec.{eqb, leb, ltb}
 use lib.ListN.{length, take, drop}
@@ -17,7 +16,6 @@ use Rattle.ground.specs.Options.{over}
 use Rattle.ground.proofs.Tests.{by-test, both-left, both-right}
 use Rattle.utf8.specs.Octets.{utf8}
 use Rattle.lexicon.specs.Span.{spanBy}
-use Rattle.lexicon.specs.Symbol.{every}
 use Rattle.arena.specs.Text.{sameText}
 use Rattle.decimals.specs.Decimal.{decimal}
 use Rattle.tables.specs.Sort as Sort
@@ -49,22 +47,19 @@ module _ {A : Type 0} (row : List ℕ → Option A) where
 
 -- rows one after the other are read back, as many as there are
 module _ {A : Type 0} (row : List ℕ → Option A) (write : A → List ℕ) (sound : (s : List ℕ) (x : A) → row s ≡ some x → write x ≡ spelled.ended s) where
-  abbrev no-words : ℕ → A → List ℕ
-  no-words at x = []
-
   pub data Reads : List A → Type 0 where
     nil : Reads []
     cons : {x : A} {xs : List A} → ((r : List ℕ) → lineRow row (write x ++ r) ≡ some x) → Reads xs → Reads (x ∷ xs)
 
   pub walk-back : (xs : List A) → Reads xs → (most : ℕ) → length xs ≤ most → (r : List ℕ) → lineRow row r ≡ none → walk row most (lines write xs ++ r) ≡ record { rows = xs; rest = r }
   unfolding lines
-  walk-back [] f most h r q = walk-stop row write no-words sound most r q
+  walk-back [] f most h r q = walk-stop row most r q
   walk-back (x ∷ xs) f zero h r q = absurd (omega arith)
   walk-back (x ∷ xs) (cons g f) (suc most) h r q =
       let a : (write x ++ lines write xs) ++ r ≡ write x ++ (lines write xs ++ r) = append-assoc (write x) (lines write xs) r in
       let d : drop (length (write x)) (write x ++ (lines write xs ++ r)) ≡ lines write xs ++ r = drop-at (write x) (lines write xs ++ r) (length (write x)) refl in
       ap (walk row (suc most)) a
-      ∙ walk-goes row write no-words sound most (write x ++ (lines write xs ++ r)) x (g (lines write xs ++ r))
+      ∙ walk-goes row write sound most (write x ++ (lines write xs ++ r)) x (g (lines write xs ++ r))
       ∙ ap (λ (s : List ℕ). record { rows = x ∷ walk row most s .rows; rest = walk row most s .rest }) d
       ∙ ap (λ (w : Walked A). record { rows = x ∷ w .rows; rest = w .rest }) (walk-back xs f most (omega arith) r q)
 
@@ -75,7 +70,7 @@ module _ (name : List ℕ) (spaceless : clear space name ≡ true) (feedless : c
   variable-reads n h = rw (cut-clear space name (decimal n) spaceless) (rw (numeral-back n h))
 
   variable-clear : (n : ℕ) → clear lineFeed (bytes "var=" ++ (name ++ space ∷ decimal n)) ≡ true
-  unfolding every
+  unfolding all
   variable-clear n = clear-append lineFeed name (space ∷ decimal n) feedless (decimal-clear lineFeed (omega arith) n)
 
   function-reads : (n m : ℕ) → n < 10000 → m < 10000 → functionIn (bytes "fun=" ++ (name ++ space ∷ (decimal n ++ space ∷ decimal m))) ≡ some (record { name = name; argument = n; result = m })
@@ -85,7 +80,7 @@ module _ (name : List ℕ) (spaceless : clear space name ≡ true) (feedless : c
       (rw (cut-clear space (decimal n) (decimal m) (decimal-clear space (omega arith) n)) (rw (numeral-back n h) (rw (numeral-back m k))))
 
   function-clear : (n m : ℕ) → clear lineFeed (bytes "fun=" ++ (name ++ space ∷ (decimal n ++ space ∷ decimal m))) ≡ true
-  unfolding every
+  unfolding all
   function-clear n m =
       clear-append lineFeed name (space ∷ (decimal n ++ space ∷ decimal m)) feedless
       (clear-append lineFeed (decimal n) (space ∷ decimal m) (decimal-clear lineFeed (omega arith) n) (decimal-clear lineFeed (omega arith) m))
@@ -97,7 +92,7 @@ module _ (name : List ℕ) (spaceless : clear space name ≡ true) (feedless : c
       (rw (cut-clear space (decimal n) text (decimal-clear space (omega arith) n)) (rw (numeral-back n h)))
 
   member-clear : (n : ℕ) (text : List ℕ) → clear lineFeed text ≡ true → clear lineFeed (bytes "enum=" ++ (name ++ space ∷ (decimal n ++ space ∷ text))) ≡ true
-  unfolding every
+  unfolding all
   member-clear n text h =
       clear-append lineFeed name (space ∷ (decimal n ++ space ∷ text)) feedless
       (clear-append lineFeed (decimal n) (space ∷ text) (decimal-clear lineFeed (omega arith) n) h)
@@ -166,7 +161,7 @@ module _ (t : Tables) (few : length (t .sorts) ≤ rowLimit) where
 
 -- a record's name and rows
 all-clear : (rows : List ℕ) (name : List ℕ) → clear lineFeed name ≡ true → clear lineFeed (joined (bytes " ") (name ∷ map decimal rows)) ≡ true
-unfolding joined every
+unfolding joined all
 all-clear [] name h = h
 all-clear (n ∷ rows) name h =
     clear-append lineFeed name (space ∷ joined (bytes " ") (decimal n ∷ map decimal rows)) h (all-clear rows (decimal n) (decimal-clear lineFeed (omega arith) n))
@@ -230,7 +225,7 @@ module _ (i : ℕ) (most : i ≤ rowLimit) where
       ∙ line-back sortIn (key ++ decimal n) r x (clear-append lineFeed key (decimal n) k (decimal-clear lineFeed (omega arith) n)) q
 
   sort-back : (x : Sort) → sortRight i x ≡ true → (r : List ℕ) → lineRow sortIn (sortLine x ++ r) ≡ some x
-  unfolding form sameText every joined
+  unfolding form sameText all joined
   sort-back bool h r = line-back sortIn (bytes "sort=bool") r bool refl refl
   sort-back string h r = line-back sortIn (bytes "sort=string") r string refl refl
   sort-back (ext Sort.decimal) h r = line-back sortIn (bytes "sort=decimal") r (ext Sort.decimal) refl refl

@@ -1,11 +1,10 @@
 -- Tables that pass the check, and whose members' texts hold no line feed, have a text that reads back to the same tables.
 -- Assumes nothing.
-use mathlib.Core.Path.{_≡_, refl, sym, ap, _∙_}
+use mathlib.Core.Path.{_≡_, refl, _∙_}
 use mathlib.Core.Bool.{true}
 use Prim.Native.Nat.{_≤_}
 use lib.ListN.{length}
 use Rattle.ground.proofs.Tests.{both-right}
-use Rattle.tables.specs.Sort.{Tables}
 use Rattle.tables.specs.Layout.{Lent, tablesOf, formed}
 use Rattle.tables.specs.Rules.{lawful}
 use Rattle.tables.specs.Check.{passes}

@@ -8,12 +8,12 @@ use native.Mathlib.Omega.{arith}
 use lib.Dec.{eqb, leb}
 use lib.ListN.{length, drop}
 use borrow.Author.Tests.{eq-eqb, ne-eqb, eqb-true, eqb-false}
-use Rattle.ground.specs.Lists.{any}
+use Rattle.ground.specs.Lists.{all, any}
 use Rattle.ground.proofs.Tests.{by-test, both-left, both-right, both}
 use Rattle.lexicon.specs.Class.{classOf}
 use Rattle.lexicon.specs.Span.{inSymbol, symbolSpan}
-use Rattle.lexicon.specs.Symbol.{every, oneSymbol}
-use Rattle.lexicon.proofs.Spans.{every-span}
+use Rattle.lexicon.specs.Symbol.{oneSymbol}
+use Rattle.lexicon.proofs.Spans.{all-span}
 use Rattle.lexicon.proofs.Symbols.{one-symbol-span}
 use Rattle.decimals.specs.Decimal.{lastDigits, digitCount, decimal}
 use Rattle.tables.specs.Rules.{nameLimit, nameRight, ownName}
@@ -22,28 +22,28 @@ use Rattle.tables_text.specs.Parse.{apart, space, lineFeed}
 use Rattle.tables_text.proofs.Cuts.{clear}
 
 pub clear-append : (byte : ℕ) (a b : List ℕ) → clear byte a ≡ true → clear byte b ≡ true → clear byte (a ++ b) ≡ true
-unfolding every
+unfolding all
 clear-append byte [] b p q = q
 clear-append byte (x ∷ a) b p q =
     both (both-left (apart byte x) (clear byte a) p) (clear-append byte a b (both-right (apart byte x) (clear byte a) p) q)
 
 pub clear-drop : (byte k : ℕ) (s : List ℕ) → clear byte s ≡ true → clear byte (drop k s) ≡ true
-unfolding every
+unfolding all
 clear-drop byte zero s p = p
 clear-drop byte (suc k) [] p = p
 clear-drop byte (suc k) (x ∷ s) p = clear-drop byte k s (both-right (apart byte x) (clear byte s) p)
 
 -- a symbol's bytes
-symbol-apart : (byte : ℕ) → inSymbol byte ≡ false → (s : List ℕ) → every inSymbol s ≡ true → clear byte s ≡ true
-unfolding every
+symbol-apart : (byte : ℕ) → inSymbol byte ≡ false → (s : List ℕ) → all inSymbol s ≡ true → clear byte s ≡ true
+unfolding all
 symbol-apart byte f [] h = refl
 symbol-apart byte f (b ∷ bs) h =
     by-test (eqb b byte)
-    (λ e. absurd (true≢false (sym (both-left (inSymbol b) (every inSymbol bs) h) ∙ ap inSymbol (eqb-true b byte e) ∙ f)))
-    (λ e. both (ap not e) (symbol-apart byte f bs (both-right (inSymbol b) (every inSymbol bs) h)))
+    (λ e. absurd (true≢false (sym (both-left (inSymbol b) (all inSymbol bs) h) ∙ ap inSymbol (eqb-true b byte e) ∙ f)))
+    (λ e. both (ap not e) (symbol-apart byte f bs (both-right (inSymbol b) (all inSymbol bs) h)))
 
-symbol-every : (s : List ℕ) → oneSymbol s ≡ true → every inSymbol s ≡ true
-symbol-every s h = every-span inSymbol s ∙ eq-eqb (symbolSpan s) (length s) (one-symbol-span s h)
+symbol-every : (s : List ℕ) → oneSymbol s ≡ true → all inSymbol s ≡ true
+symbol-every s h = all-span inSymbol s ∙ eq-eqb (symbolSpan s) (length s) (one-symbol-span s h)
 
 no-space : inSymbol space ≡ false
 unfolding inSymbol classOf
@@ -64,7 +64,7 @@ own-right s h = both-left (nameRight s) _ h
 
 -- digits
 digits-clear : (byte : ℕ) → byte < 48 → (k n : ℕ) → clear byte (lastDigits k n) ≡ true
-unfolding every lastDigits
+unfolding all lastDigits
 digits-clear byte h zero n = refl
 digits-clear byte h (suc k) n =
     clear-append byte (lastDigits k (n / 10)) ((48 + n % 10) ∷ []) (digits-clear byte h k (n / 10))
@@ -76,7 +76,7 @@ decimal-clear byte h n = digits-clear byte h (digitCount n) n
 
 -- a text on one line
 pub one-line-clear : (s : List ℕ) → oneLine s ≡ true → clear lineFeed s ≡ true
-unfolding every any
+unfolding all any
 one-line-clear [] h = refl
 one-line-clear (b ∷ bs) h =
     by-test (eqb 0x0A b)
@@ -86,7 +86,7 @@ one-line-clear (b ∷ bs) h =
     (one-line-clear bs (sym (ap (λ (t : Bool). not (t || any (eqb 0x0A) bs)) e) ∙ h)))
 
 pub clear-one-line : (s : List ℕ) → clear lineFeed s ≡ true → oneLine s ≡ true
-unfolding every any
+unfolding all any
 clear-one-line [] h = refl
 clear-one-line (b ∷ bs) h =
     by-test (eqb 0x0A b)

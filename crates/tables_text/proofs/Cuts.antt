@@ -13,7 +13,7 @@ use lib.Seq.{take-at, drop-cons, length-take-le, drop-drop, take-all}
 use borrow.Author.Tests.{eq-eqb, ne-eqb, eqb-true, lt-ltb, le-ltb, not-false}
 use Rattle.ground.proofs.Tests.{by-test, and-false, by-order}
 use Rattle.lexicon.specs.Span.{spanBy}
-use Rattle.lexicon.specs.Symbol.{every}
+use Rattle.ground.specs.Lists.{all}
 use Rattle.lexicon.proofs.Spans.{span-next, span-end-le}
 use Rattle.arena.specs.Text.{sameText, textIs}
 use Rattle.tables_text.specs.Parse.{begins, apart, spanTo, Cut, cutAt}
@@ -56,11 +56,11 @@ parts b byte h = rw (eq-eqb b byte h)
 
 -- no byte is the separator
 abbrev pub clear : ℕ → List ℕ → Bool
-clear byte s = every (apart byte) s
+clear byte s = all (apart byte) s
 
 module _ (byte : ℕ) where
   pub span-clear : (w s : List ℕ) → clear byte w ≡ true → spanTo byte (w ++ byte ∷ s) ≡ length w
-  unfolding spanBy every
+  unfolding spanBy all
   span-clear [] s h = rw (eq-eqb byte byte refl)
   span-clear (b ∷ bs) s h =
       by-test (apart byte b)
@@ -68,7 +68,7 @@ module _ (byte : ℕ) where
       (λ e. absurd (true≢false (sym h ∙ ap (λ (t : Bool). t && clear byte bs) e)))
 
   pub span-whole : (w : List ℕ) → clear byte w ≡ true → spanTo byte w ≡ length w
-  unfolding spanBy every
+  unfolding spanBy all
   span-whole [] h = refl
   span-whole (b ∷ bs) h =
       by-test (apart byte b)

@@ -5,7 +5,6 @@ use mathlib.Core.Bool.{Bool, true, false}
 use mathlib.Core.List.{List}
 use mathlib.Core.Option.{Option, none, some}
 use Prim.Native.Nat.{ℕ, _-_}
-use Prim.Native.String.{String}
 use lib.ListN.{length, take, drop}
 use Rattle.ground.specs.Bytes.{bytes}
 use Rattle.ground.specs.Options.{over}

@@ -26,23 +26,20 @@ use Rattle.tables_text.proofs.Walks.{walk-stop, walk-none, walk-goes}
 
 -- the lines of the rows, and then what is left
 module _ {A : Type 0} (row : List ℕ → Option A) (write : A → List ℕ) (sound : (s : List ℕ) (x : A) → row s ≡ some x → write x ≡ spelled.ended s) where
-  abbrev no-words : ℕ → A → List ℕ
-  no-words at x = []
-
   pub walk-sound : (most : ℕ) (s : List ℕ) → s ≡ lines write (walk row most s .rows) ++ walk row most s .rest
   unfolding lines
-  walk-sound zero s = ap (λ (w : Walked A). lines write (w .rows) ++ w .rest) (sym (walk-none row write no-words sound s))
+  walk-sound zero s = ap (λ (w : Walked A). lines write (w .rows) ++ w .rest) (sym (walk-none row s))
   walk-sound (suc most) s = by-row (λ l. walk-sound most l) (lineRow row s) refl
     where
       by-row : ((l : List ℕ) → l ≡ lines write (walk row most l .rows) ++ walk row most l .rest) → (o : Option A) → lineRow row s ≡ o → s ≡ lines write (walk row (suc most) s .rows) ++ walk row (suc most) s .rest
-      by-row again none e = ap (λ (w : Walked A). lines write (w .rows) ++ w .rest) (sym (walk-stop row write no-words sound (suc most) s e))
+      by-row again none e = ap (λ (w : Walked A). lines write (w .rows) ++ w .rest) (sym (walk-stop row (suc most) s e))
       by-row again (some x) e =
           let d : drop (length (write x)) s ≡ drop (suc (spanTo lineFeed s)) s =
           ap (drop (length (write x))) (line-sound row write sound s x e) ∙ drop-at (write x) (drop (suc (spanTo lineFeed s)) s) (length (write x)) refl in
           line-sound row write sound s x e
           ∙ ap (λ (l : List ℕ). write x ++ l) (sym d ∙ again (drop (length (write x)) s))
           ∙ sym (append-assoc (write x) (lines write (walk row most (drop (length (write x)) s) .rows)) (walk row most (drop (length (write x)) s) .rest))
-          ∙ ap (λ (w : Walked A). lines write (w .rows) ++ w .rest) (sym (walk-goes row write no-words sound most s x e))
+          ∙ ap (λ (w : Walked A). lines write (w .rows) ++ w .rest) (sym (walk-goes row write sound most s x e))
 
   pub walk-left : (most : ℕ) (s : List ℕ) → drop (length (lines write (walk row most s .rows))) s ≡ walk row most s .rest
   walk-left most s =

@@ -11,7 +11,7 @@ use borrow.Author.Tests.{le-leb, lt-leb}
 use Rattle.ground.specs.Lists.{all}
 use Rattle.ground.specs.Options.{over}
 use Rattle.ground.proofs.Tests.{by-test, by-order, one-result, both}
-use Rattle.lexicon.proofs.Spans.{every-take}
+use Rattle.lexicon.proofs.Spans.{all-take}
 use Rattle.refusals.specs.declared.Refusal.{Refusal}
 use Rattle.refusals.specs.declared.Refusal.the-variants.{InputTooLong, BadTable}
 use Rattle.tables.specs.Sort.{Tables, Member}
@@ -67,7 +67,7 @@ line-member : (s : List ℕ) (m : Member) → lineRow memberIn s ≡ some m → 
 unfolding lineRow
 line-member s m h =
     by-order (spanTo lineFeed s) (length s)
-    (λ l. member-one-line (take (spanTo lineFeed s) s) m (every-take (apart lineFeed) s) (ap (λ (o : Option Cut). over o (λ c. memberIn (c .word))) (sym (cut-found lineFeed s l)) ∙ h))
+    (λ l. member-one-line (take (spanTo lineFeed s) s) m (all-take (apart lineFeed) s) (ap (λ (o : Option Cut). over o (λ c. memberIn (c .word))) (sym (cut-found lineFeed s l)) ∙ h))
     (λ l. let q : none ≡ some m = ap (λ (o : Option Cut). over o (λ c. memberIn (c .word))) (sym (cut-none lineFeed s l)) ∙ h in let z : _≡_ {A = ℕ} 0 1 = cc in absurd (omega arith))
 
 members-one-line : (most : ℕ) (s : List ℕ) → all (λ m. oneLine (m .text)) (walk memberIn most s .rows) ≡ true
@@ -165,17 +165,6 @@ module _ (text : List ℕ) where
         spelled = λ _ t s. leaves-as (text-spelled t s) l;
         other = λ _ never. leaves-as (text-other never) l;
       }
-
-      pub reads-so : Leaves (reading entry text) r exit → Reads text entry r exit
-      unfolding reading
-      reads-so l =
-          by-order textLimit (length text)
-          (λ h. record {
-            long = λ _. leaves-as (ap (λ (b : Bool). cond b (ofText entry text) (refusing entry InputTooLong)) (lt-leb (length text) textLimit h)) l;
-            spelled = λ k t s. absurd (omega arith);
-            other = λ k never. absurd (omega arith);
-          })
-          (λ h. reads-short h (leaves-as (ap (λ (b : Bool). cond b (ofText entry text) (refusing entry InputTooLong)) (le-leb (length text) textLimit h)) l))
 
       pub so-reads : Reads text entry r exit → Leaves (reading entry text) r exit
       unfolding reading

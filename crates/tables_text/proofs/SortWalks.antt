@@ -4,7 +4,6 @@ use mathlib.Core.Path.{_≡_, refl, sym, ap, ap₂, _∙_, subst}
 use mathlib.Core.List.{List, [], _∷_, _++_, map, append-assoc, append-nil}
 use mathlib.Core.Option.{Option, none, some}
 use Prim.Native.Nat.{ℕ, suc, _+_, _-_, _*_, _≤_, _<_}
-use Prim.Native.String.{String}
 use native.Mathlib.Omega.{arith}
 use lib.ListN.{length, take, drop, length-append, length-drop, length-take}
 use lib.Seq.{sets, length-sets, drop-drop, length-take-le}
@@ -309,7 +308,7 @@ module _ (text entry list : List ℕ) (at number count : ℕ) (table fields : Li
   pub sorting-full : rowLimit ≤ number → SortsWalked (walk sortIn rowLimit text) table fields (record { at = at; rows = number; fields = count })
   sorting-full h =
       let z : rowLimit - number ≡ 0 = omega arith in
-      sorting-end (ap (λ (k : ℕ). walk sortIn k (drop at text)) z ∙ walk-none sortIn sortLine (λ i. sortWords i count) sort-sound (drop at text)) table fields refl refl
+      sorting-end (ap (λ (k : ℕ). walk sortIn k (drop at text)) z ∙ walk-none sortIn (drop at text)) table fields refl refl
 
   module _ (less : number < rowLimit) where
     pub sorting-fine : FineSort text at table number fields count
@@ -324,7 +323,7 @@ module _ (text entry list : List ℕ) (at number count : ℕ) (table fields : Li
       pub sorting-stop : r ≡ Stop → SortsWalked (walk sortIn rowLimit text) table′ fields′ (record { at = at; rows = number; fields = count })
       sorting-stop q =
           let f : lineRow sortIn (drop at text) ≡ none = told-stop at count (lineRow sortIn (drop at text)) (sym q ∙ l .answers) in
-          sorting-end (walk-stop sortIn sortLine (λ i. sortWords i count) sort-sound (rowLimit - number) (drop at text) f) table′ fields′ (l .holds ∙ ap (sortHeld at number count table) f) (l .stay)
+          sorting-end (walk-stop sortIn (rowLimit - number) (drop at text) f) table′ fields′ (l .holds ∙ ap (sortHeld at number count table) f) (l .stay)
 
       pub sorting-long : length table′ ≡ length entry
       sorting-long = ap length (l .holds) ∙ held (lineRow sortIn (drop at text)) ∙ so .long
@@ -346,14 +345,14 @@ module _ (text entry list : List ℕ) (at number count : ℕ) (table fields : Li
             let d : drop (length (sortLine x)) (drop at text) ≡ drop next text = drop-drop (length (sortLine x)) at text ∙ ap (λ (i : ℕ). drop i text) (sym n) in
             let w : walk sortIn (rowLimit - number) (drop at text) .rows ≡ x ∷ walk sortIn (rowLimit - (number + 1)) (drop next text) .rows =
             ap (λ (i : ℕ). walk sortIn i (drop at text) .rows) k
-            ∙ ap (λ (v : Walked Sort). v .rows) (walk-goes sortIn sortLine (λ i. sortWords i count) sort-sound (rowLimit - (number + 1)) (drop at text) x f)
+            ∙ ap (λ (v : Walked Sort). v .rows) (walk-goes sortIn sortLine sort-sound (rowLimit - (number + 1)) (drop at text) x f)
             ∙ ap (λ (s : List ℕ). x ∷ walk sortIn (rowLimit - (number + 1)) s .rows) d in
             let held : table′ ≡ sets table (number * stride) (sortWords at count x) = l .holds ∙ ap (sortHeld at number count table) f in
             let m : (number + 1) * stride ≡ number * stride + length (sortWords at count x) = omega (arith, five at count x) in
             record {
               long = sorting-long;
               listed = listed;
-              within = omega (arith, n, line-within sortIn sortLine (λ i. sortWords i count) sort-sound text at x (so .within) f);
+              within = omega (arith, n, line-within sortIn sortLine sort-sound text at x (so .within) f);
               few = omega arith;
               halved = omega (arith, so .halved, n, c, half x);
               counts = omega (arith, so .counts, ap length w);

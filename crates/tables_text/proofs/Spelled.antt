@@ -5,7 +5,6 @@ use mathlib.Core.Bool.{Bool, true, false, cond}
 use mathlib.Core.List.{List, [], _∷_, _++_, map, append-assoc, append-nil}
 use mathlib.Core.Option.{Option, none, some}
 use Prim.Native.Nat.{ℕ, suc, _+_, _-_, _≤_, _<_}
-use Prim.Native.String.{String}
 use native.Mathlib.Omega.{arith}
 use lib.Dec.{eqb}
 use lib.ListN.{length, getD, take, drop, length-drop, take-append-drop}
@@ -14,7 +13,7 @@ use borrow.Author.Tests.{eqb-true, not-false}
 use Rattle.ground.specs.Bytes.{bytes}
 use Rattle.ground.specs.Lists.{joined}
 use Rattle.ground.specs.Options.{over}
-use Rattle.ground.proofs.Tests.{by-test, by-order}
+use Rattle.ground.proofs.Tests.{by-test, by-order, by-cond}
 use Rattle.lexicon.proofs.Spans.{span-next}
 use Rattle.arena.specs.Text.{sameText}
 use Rattle.arena.proofs.Texts.{same-equal}
@@ -183,10 +182,6 @@ Formed s (some (setOf row)) = sortLine (setOf row) ≡ ended s
 Formed s (some (entityOf name)) = sortLine (entityOf name) ≡ ended s
 Formed s (some (recordOf body fields)) = s ≡ bytes "sort=record " ++ body
 
-either : (P : Option Sort → Type 0) (t : Bool) (a b : Option Sort) → (t ≡ true → P a) → (t ≡ false → P b) → P (cond t a b)
-either P true a b f g = f refl
-either P false a b f g = g refl
-
 with-number : (P : Option Sort → Type 0) (make : ℕ → Sort) (s : List ℕ) → P none → ((n : ℕ) → decimal n ≡ s → P (some (make n))) → P (numbered make s)
 with-number P make s f g = by-number (numeral s) refl
   where
@@ -207,31 +202,31 @@ module _ (s : List ℕ) where
   named-formed : Formed s (namedForm s)
   unfolding namedForm joined
   named-formed =
-      either P (begins (bytes "sort=entity ") s) (some (entityOf (drop 12 s))) (cond (begins (bytes "sort=record ") s) (some (recordOf (drop 12 s) [])) none)
+      by-cond P (begins (bytes "sort=entity ") s) (some (entityOf (drop 12 s))) (cond (begins (bytes "sort=record ") s) (some (recordOf (drop 12 s) [])) none)
       (λ e. keyed (bytes "sort=entity ") (drop 12 s) e refl)
-      (λ _. either P (begins (bytes "sort=record ") s) (some (recordOf (drop 12 s) [])) none
+      (λ _. by-cond P (begins (bytes "sort=record ") s) (some (recordOf (drop 12 s) [])) none
       (λ e. begins-split (bytes "sort=record ") s e)
       (λ _. tt))
 
   numbered-formed : Formed s (numberedForm s)
   unfolding numberedForm joined
   numbered-formed =
-      either P (begins (bytes "sort=bitvec ") s) (numbered bitVec (drop 12 s)) (cond (begins (bytes "sort=option ") s) (numbered optionOf (drop 12 s)) (cond (begins (bytes "sort=set ") s) (numbered setOf (drop 9 s)) (namedForm s)))
+      by-cond P (begins (bytes "sort=bitvec ") s) (numbered bitVec (drop 12 s)) (cond (begins (bytes "sort=option ") s) (numbered optionOf (drop 12 s)) (cond (begins (bytes "sort=set ") s) (numbered setOf (drop 9 s)) (namedForm s)))
       (λ e. with-number P bitVec (drop 12 s) tt (λ n q. keyed (bytes "sort=bitvec ") (decimal n) e q))
-      (λ _. either P (begins (bytes "sort=option ") s) (numbered optionOf (drop 12 s)) (cond (begins (bytes "sort=set ") s) (numbered setOf (drop 9 s)) (namedForm s))
+      (λ _. by-cond P (begins (bytes "sort=option ") s) (numbered optionOf (drop 12 s)) (cond (begins (bytes "sort=set ") s) (numbered setOf (drop 9 s)) (namedForm s))
       (λ e. with-number P optionOf (drop 12 s) tt (λ n q. keyed (bytes "sort=option ") (decimal n) e q))
-      (λ _. either P (begins (bytes "sort=set ") s) (numbered setOf (drop 9 s)) (namedForm s)
+      (λ _. by-cond P (begins (bytes "sort=set ") s) (numbered setOf (drop 9 s)) (namedForm s)
       (λ e. with-number P setOf (drop 9 s) tt (λ n q. keyed (bytes "sort=set ") (decimal n) e q))
       (λ _. named-formed)))
 
   formed : Formed s (form s)
   unfolding form joined
   formed =
-      either P (sameText s (bytes "sort=bool")) (some bool) _ (whole (bytes "sort=bool"))
-      (λ _. either P (sameText s (bytes "sort=string")) (some string) _ (whole (bytes "sort=string"))
-      (λ _. either P (sameText s (bytes "sort=decimal")) (some (ext Sort.decimal)) _ (whole (bytes "sort=decimal"))
-      (λ _. either P (sameText s (bytes "sort=datetime")) (some (ext Sort.datetime)) _ (whole (bytes "sort=datetime"))
-      (λ _. either P (sameText s (bytes "sort=duration")) (some (ext Sort.duration)) _ (whole (bytes "sort=duration"))
+      by-cond P (sameText s (bytes "sort=bool")) (some bool) _ (whole (bytes "sort=bool"))
+      (λ _. by-cond P (sameText s (bytes "sort=string")) (some string) _ (whole (bytes "sort=string"))
+      (λ _. by-cond P (sameText s (bytes "sort=decimal")) (some (ext Sort.decimal)) _ (whole (bytes "sort=decimal"))
+      (λ _. by-cond P (sameText s (bytes "sort=datetime")) (some (ext Sort.datetime)) _ (whole (bytes "sort=datetime"))
+      (λ _. by-cond P (sameText s (bytes "sort=duration")) (some (ext Sort.duration)) _ (whole (bytes "sort=duration"))
       (λ _. numbered-formed)))))
 
   filled-sound : (o : Option Sort) → Formed s o → (x : Sort) → filled o ≡ some x → sortLine x ≡ ended s

@@ -4,7 +4,6 @@ use mathlib.Core.Path.{_≡_, refl, sym, ap, ap₂, _∙_, subst}
 use mathlib.Core.List.{List, [], _∷_, _++_, append-assoc, append-nil}
 use mathlib.Core.Option.{Option, none, some}
 use Prim.Native.Nat.{ℕ, zero, suc, _+_, _-_, _*_, _≤_, _<_}
-use Prim.Native.String.{String}
 use native.Mathlib.Omega.{arith}
 use lib.ListN.{length, take, drop, length-append, length-drop}
 use lib.Seq.{sets, length-sets, drop-at, drop-drop}
@@ -100,6 +99,30 @@ row-member-at text at end le e name entity size h =
     let l : at + length (take (end - at) (drop at text)) ≡ end = omega (arith, word-long lineFeed text at end le e, e) in
     (t .0, t .1, ap (λ (n : ℕ). rowWords (at + 5) name entity (n - size) size) (sym l) ∙ t .2, omega (arith, l, t .3))
 
+-- the walk at a line
+module _ {A : Type 0} (row : List ℕ → Option A) where
+  pub walk-stop : (most : ℕ) (s : List ℕ) → lineRow row s ≡ none → walk row most s ≡ stopped s
+  unfolding walk
+  walk-stop zero s q = refl
+  walk-stop (suc most) s q = ap (λ (o : Option A). went s o (walk row most (drop (suc (spanTo lineFeed s)) s))) q
+
+  pub walk-none : (s : List ℕ) → walk row 0 s ≡ stopped s
+  unfolding walk
+  walk-none s = refl
+
+  module _ (write : A → List ℕ) (sound : (s : List ℕ) (x : A) → row s ≡ some x → write x ≡ ended s) where
+    pub walk-goes : (most : ℕ) (s : List ℕ) (x : A) → lineRow row s ≡ some x
+        → walk row (suc most) s ≡ record { rows = x ∷ walk row most (drop (length (write x)) s) .rows; rest = walk row most (drop (length (write x)) s) .rest }
+    unfolding walk
+    walk-goes most s x q =
+        let d : drop (suc (spanTo lineFeed s)) s ≡ drop (length (write x)) s =
+        sym (drop-at (write x) (drop (suc (spanTo lineFeed s)) s) (length (write x)) refl) ∙ ap (drop (length (write x))) (sym (line-sound row write sound s x q)) in
+        ap₂ (λ (o : Option A) (l : List ℕ). went s o (walk row most l)) q d
+
+    pub line-within : (text : List ℕ) (at : ℕ) (x : A) → at ≤ length text → lineRow row (drop at text) ≡ some x → at + length (write x) ≤ length text
+    line-within text at x le q =
+        omega (arith, ap length (line-sound row write sound (drop at text) x q), length-append (write x) (drop (suc (spanTo lineFeed (drop at text))) (drop at text)), length-drop at text, le)
+
 module _ {A : Type 0} (row : List ℕ → Option A) (write : A → List ℕ) (words : ℕ → A → List ℕ) (sound : (s : List ℕ) (x : A) → row s ≡ some x → write x ≡ ended s) where
   -- one line
   module _ (text : List ℕ) (at end : ℕ) (le : at ≤ length text) (e : end ≡ at + spanTo lineFeed (drop at text)) (number : ℕ) (table : List ℕ) where
@@ -129,28 +152,6 @@ module _ {A : Type 0} (row : List ℕ → Option A) (write : A → List ℕ) (wo
     lined-row h x q exit held =
         let f : lineRow row (drop at text) ≡ some x = line-here h ∙ q in
         record { answers = ap Next (line-ends x q) ∙ ap (lineTold write words at) (sym f); holds = held ∙ ap (lineHeld write words at number table) (sym f) }
-
-  -- the walk at a line
-  pub walk-stop : (most : ℕ) (s : List ℕ) → lineRow row s ≡ none → walk row most s ≡ stopped s
-  unfolding walk
-  walk-stop zero s q = refl
-  walk-stop (suc most) s q = ap (λ (o : Option A). went s o (walk row most (drop (suc (spanTo lineFeed s)) s))) q
-
-  pub walk-none : (s : List ℕ) → walk row 0 s ≡ stopped s
-  unfolding walk
-  walk-none s = refl
-
-  pub walk-goes : (most : ℕ) (s : List ℕ) (x : A) → lineRow row s ≡ some x
-      → walk row (suc most) s ≡ record { rows = x ∷ walk row most (drop (length (write x)) s) .rows; rest = walk row most (drop (length (write x)) s) .rest }
-  unfolding walk
-  walk-goes most s x q =
-      let d : drop (suc (spanTo lineFeed s)) s ≡ drop (length (write x)) s =
-      sym (drop-at (write x) (drop (suc (spanTo lineFeed s)) s) (length (write x)) refl) ∙ ap (drop (length (write x))) (sym (line-sound row write sound s x q)) in
-      ap₂ (λ (o : Option A) (l : List ℕ). went s o (walk row most l)) q d
-
-  pub line-within : (text : List ℕ) (at : ℕ) (x : A) → at ≤ length text → lineRow row (drop at text) ≡ some x → at + length (write x) ≤ length text
-  line-within text at x le q =
-      omega (arith, ap length (line-sound row write sound (drop at text) x q), length-append (write x) (drop (suc (spanTo lineFeed (drop at text))) (drop at text)), length-drop at text, le)
 
   told-next : (at next : ℕ) (o : Option A) → Next next ≡ lineTold write words at o → (x : A) × (o ≡ some x) × (next ≡ at + length (write x))
   told-next at next none h = let z : _≡_ {A = ℕ} 0 1 = cc in absurd (omega arith)
@@ -186,7 +187,7 @@ module _ {A : Type 0} (row : List ℕ → Option A) (write : A → List ℕ) (wo
     pub walking-full : rowLimit ≤ number → WalkedTo write words start (walk row rowLimit (drop start text)) table (record { at = at; rows = number })
     walking-full h =
         let z : rowLimit - number ≡ 0 = omega arith in
-        walking-end (ap (λ (k : ℕ). walk row k (drop at text)) z ∙ walk-none (drop at text))
+        walking-end (ap (λ (k : ℕ). walk row k (drop at text)) z ∙ walk-none row (drop at text))
 
     module _ (less : number < rowLimit) where
       pub walking-room : number * stride + stride ≤ length table
@@ -198,7 +199,7 @@ module _ {A : Type 0} (row : List ℕ → Option A) (write : A → List ℕ) (wo
             let f : lineRow row (drop at text) ≡ none = told-stop at (lineRow row (drop at text)) (sym q ∙ l .answers) in
             let x : exit ≡ table = l .holds ∙ ap (lineHeld write words at number table) f in
             subst (λ (t : List ℕ). WalkedTo write words start (walk row rowLimit (drop start text)) t (record { at = at; rows = number })) (sym x)
-            (walking-end (walk-stop (rowLimit - number) (drop at text) f))
+            (walking-end (walk-stop row (rowLimit - number) (drop at text) f))
 
         pub walking-long : length exit ≡ length entry
         walking-long = ap length (l .holds) ∙ held (lineRow row (drop at text)) ∙ so .long
@@ -219,13 +220,13 @@ module _ {A : Type 0} (row : List ℕ → Option A) (write : A → List ℕ) (wo
               let d : drop (length (write x)) (drop at text) ≡ drop next text = drop-drop (length (write x)) at text ∙ ap (λ (i : ℕ). drop i text) (sym n) in
               let w : walk row (rowLimit - number) (drop at text) .rows ≡ x ∷ walk row (rowLimit - (number + 1)) (drop next text) .rows =
               ap (λ (i : ℕ). walk row i (drop at text) .rows) k
-              ∙ ap (λ (v : Walked A). v .rows) (walk-goes (rowLimit - (number + 1)) (drop at text) x f)
+              ∙ ap (λ (v : Walked A). v .rows) (walk-goes row write sound (rowLimit - (number + 1)) (drop at text) x f)
               ∙ ap (λ (s : List ℕ). x ∷ walk row (rowLimit - (number + 1)) s .rows) d in
               let held : exit ≡ sets table (number * stride) (words at x) = l .holds ∙ ap (lineHeld write words at number table) f in
               let m : (number + 1) * stride ≡ number * stride + length (words at x) = omega (arith, five at x) in
               record {
                 long = walking-long;
-                within = omega (arith, n, line-within text at x (so .within) f);
+                within = omega (arith, n, line-within row write sound text at x (so .within) f);
                 few = omega arith;
                 counts = omega (arith, so .counts, ap length w);
                 ends = omega (arith, so .ends, ap (λ (v : List A). length (lines write v)) w, n, length-append (write x) (lines write (walk row (rowLimit - (number + 1)) (drop next text) .rows)));

@@ -1,21 +1,18 @@
 -- Document 01, "The listing" and "Numbers given back": its sample of the tables' text form, the lines that it names besides, numbers
 -- that no line has, and which of two short buffers is told.
 use mathlib.Core.Path.{_≡_, refl}
-use mathlib.Core.List.{List, [], _∷_, map}
+use mathlib.Core.List.{[], _∷_, map}
 use mathlib.Core.Option.{none, some}
-use Prim.Native.Nat.{ℕ}
-use Prim.Native.String.{String}
 use Rattle.ground.specs.Bytes.{bytes}
 use Rattle.ground.specs.Lists.{joined}
 use Rattle.refusals.specs.declared.Refusal.the-variants.{OutRoom}
 use Rattle.decimals.specs.Decimal.{decimal, lastDigits, digitCountWithin}
 use Rattle.tables.specs.Sort as Sort
 use Rattle.tables.specs.Sort.{Sort, bool, ext, bitVec, optionOf, setOf, entityOf, recordOf, Tables}
-use Rattle.tables.specs.Layout.{Lent}
 use Rattle.tables_text.specs.declared.read.TablesRead.the-variants.{Refused}
 use Rattle.tables_text.specs.Line.{lines, sortLine, memberLine, written}
 use Rattle.tables_text.specs.Parse.{digitsFrom, numeral}
-use Rattle.tables_text.specs.Read.{Buffers, Left, fitted}
+use Rattle.tables_text.specs.Read.{Buffers, fitted}
 
 abbrev sample : Tables
 sample = record {

@@ -2,7 +2,6 @@
 use mathlib.Core.List.{List, [], _∷_, _++_}
 use Prim.Native.Nat.{ℕ, _+_}
 use lib.ListN.{length}
-use Rattle.ground.specs.Bytes.{bytes}
 use Rattle.decimals.specs.Decimal.{decimal}
 use Rattle.tables.specs.Sort as Sort
 use Rattle.tables.specs.Sort.{Sort, bool, string, ext, bitVec, optionOf, setOf, entityOf, recordOf, Variable, Function, Member, Tables}

@@ -1,6 +1,6 @@
 -- A run of digits, below a base.
 -- Assumes nothing.
-use mathlib.Core.Path.{_≡_, refl, sym, ap, _∙_, subst}
+use mathlib.Core.Path.{_≡_, refl, ap, subst}
 use mathlib.Core.Bool.{Bool}
 use mathlib.Core.List.{List}
 use Prim.Native.Nat.{ℕ, _+_, _-_, _≤_, _<_}
@@ -11,7 +11,7 @@ use borrow.Author.Tests.{lt-ltb, le-ltb}
 use Rattle.words.specs.declared.digits.Radix.{Radix}
 use Rattle.words.specs.Radix.{baseOf, worth}
 use Rattle.lexicon.specs.Span.{spanBy}
-use Rattle.lexicon.proofs.Spans.{span-le, span-end-le, span-goes, span-stops, span-ends}
+use Rattle.lexicon.proofs.Spans.{span-le, span-goes, span-stops, span-ends}
 use Rattle.tokens.specs.declared.lexeme.Kind.the-variants.{Bits}
 use Rattle.tokens.specs.Lexeme.{lexeme, runSpan, bitVector}
 

@@ -3,28 +3,27 @@
 use mathlib.Core.Path.{_≡_, refl, sym, ap, _∙_, subst}
 use mathlib.Core.Bool.{Bool, true, false, cond}
 use mathlib.Core.List.{List, [], _∷_}
-use Prim.Native.Nat.{ℕ, zero, suc, min, _+_, _-_, _*_, _≤_, _<_}
+use Prim.Native.Nat.{ℕ, zero, suc, _+_, _-_, _*_, _≤_, _<_}
 use native.Mathlib.Omega.{arith}
-use lib.ListN.{length, getD, take, drop, length-drop, length-take, drop-of-length-le}
+use lib.ListN.{length, getD, take, drop, length-drop}
 use lib.Seq.{drop-drop}
 use Rattle.ground.proofs.Lists.{at-place}
-use Rattle.ground.proofs.Tests.{by-test}
 use Rattle.words.specs.declared.digits.Radix.the-variants.{Decimal}
 use Rattle.words.specs.declared.digits.Parsed.{Parsed}
 use Rattle.words.specs.declared.digits.Parsed.the-variants.{Number, Refused}
 use Rattle.words.specs.Run.{parsed}
 use Rattle.utf8.specs.Octets.{utf8}
 use Rattle.strings.specs.Points.{points}
-use Rattle.strings.specs.Text.{text, anySurrogate}
+use Rattle.strings.specs.Text.{anySurrogate}
 use Rattle.strings.proofs.Texts.{Bytes, text-le}
 use Rattle.words.specs.Extension.{extended}
 use Rattle.lexicon.specs.Class.{classOf}
-use Rattle.brackets.specs.Token.{Atom, bits, number, Token, opens, closes, atom, atomText}
+use Rattle.brackets.specs.Token.{Atom, bits, number, opens, closes, atom, atomText}
 use Rattle.tokens.specs.declared.lexeme.Kind.{Kind}
 use Rattle.tokens.specs.declared.lexeme.Kind.the-variants as K
 use Rattle.tokens.specs.declared.lexeme.Lexeme.{Lexeme}
 use Rattle.tokens.specs.Lexeme.{lexemeAt}
-use Rattle.tokens.specs.Piece.{Piece, space, token, wrong, fromParsed, bitsOf, pieceOf, pieceAt, Lexed, ok, bad, more, emit, lexAfter, lex}
+use Rattle.tokens.specs.Piece.{Piece, space, token, wrong, fromParsed, bitsOf, pieceOf, pieceAt, ok, more, emit, lexAfter, lex}
 use Rattle.tokens.proofs.Reaches.{Reach, reach}
 
 lex-skip : (k : ℕ) (s : List ℕ) → lexAfter k s ≡ lex (drop k s)

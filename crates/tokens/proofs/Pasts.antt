@@ -8,9 +8,8 @@ use lib.ListN.{length, getD, drop}
 use Rattle.ground.proofs.Lists.{at-place}
 use Rattle.lexicon.specs.Class.{classOf, blank}
 use Rattle.tokens.specs.declared.lexeme.Kind.the-variants.{Blank}
-use Rattle.tokens.specs.declared.lexeme.Lexeme.{Lexeme}
 use Rattle.tokens.specs.Lexeme.{single, byClass, lexemeAt}
-use Rattle.tokens.specs.Piece.{Piece, emit, pieceAt, lex}
+use Rattle.tokens.specs.Piece.{Piece, emit, lex}
 use Rattle.tokens.specs.Past.{Past}
 use Rattle.tokens.proofs.Lexes.{found-piece, lex-at}
 

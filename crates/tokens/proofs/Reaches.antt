@@ -1,27 +1,23 @@
 -- What stands at a place takes at least one byte, all of its bytes are there, and its content lies within it.
 -- Assumes nothing.
-use mathlib.Core.Path.{_≡_, refl, sym, ap, _∙_, subst}
-use mathlib.Core.Bool.{Bool, true, false, cond, _&&_, _||_}
+use mathlib.Core.Path.{_≡_, refl, sym, _∙_, subst}
+use mathlib.Core.Bool.{Bool, true, false, cond, _&&_}
 use mathlib.Core.List.{List, [], _∷_}
 use Prim.Native.Nat.{ℕ, suc, _+_, _-_, _≤_, _<_}
 use native.Mathlib.Omega.{arith}
 use lib.Dec.{leb, ltb, eqb}
-use lib.ListN.{length, take, drop}
-use lib.Seq.{drop-drop}
+use lib.ListN.{length}
 use borrow.Author.Tests.{eqb-true, eqb-false, ltb-true, leb-true, lt-ltb, eq-eqb}
 use Rattle.ground.proofs.Tests.{by-test, both-left, both-right}
-use Rattle.words.specs.declared.digits.Radix.{Radix}
 use Rattle.words.specs.declared.digits.Radix.the-variants.{Binary, Decimal, Hexadecimal}
-use Rattle.words.specs.Radix.{baseOf, worth, isDigit}
+use Rattle.words.specs.Radix.{worth, isDigit}
 use Rattle.words.proofs.Worths.{a-digit}
 use Rattle.lexicon.specs.Class.{classOf, whiteSpace, blank, opening, closing, comment, quote, hash, digit, other}
-use Rattle.lexicon.specs.Span.{spanBy, inSymbol, inLine, symbolSpan, lineSpan}
+use Rattle.lexicon.specs.Span.{spanBy, inSymbol, inLine}
 use Rattle.lexicon.proofs.Spans.{span-le}
 use Rattle.tokens.specs.declared.lexeme.Kind.{Kind}
 use Rattle.tokens.specs.declared.lexeme.Lexeme.{Lexeme}
-use Rattle.tokens.specs.Lexeme.{lexeme, single, runSpan, inside, afterQuote, bitVector, afterHash, whole, byClass, lexemeAt}
-use Rattle.tokens.proofs.Digits.{under}
-use Rattle.tokens.proofs.Insides.{inside-le}
+use Rattle.tokens.specs.Lexeme.{single, inside, afterQuote, afterHash, whole, byClass, lexemeAt}
 
 pub record Reach (l : Lexeme) (n : ℕ) : Type 0 where
   pub some : 1 ≤ l .width

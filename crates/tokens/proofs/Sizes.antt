@@ -1,13 +1,13 @@
 -- The size of a piece, by its kind.
 -- Assumes nothing.
-use mathlib.Core.Path.{_≡_, refl, sym, ap, _∙_, subst}
-use mathlib.Core.Bool.{Bool, true, false, cond}
+use mathlib.Core.Path.{_≡_, refl, sym, ap, _∙_}
+use mathlib.Core.Bool.{Bool, true, false}
 use mathlib.Core.List.{List, []}
-use Prim.Native.Nat.{ℕ, _*_}
+use Prim.Native.Nat.{ℕ}
 use native.Mathlib.Omega.{arith}
 use lib.ListN.{length}
 use Rattle.ground.proofs.Tests.{by-test}
-use Rattle.refusals.specs.declared.Refusal.the-variants.{UnexpectedEnd, Utf8Error, StringParseError}
+use Rattle.refusals.specs.declared.Refusal.the-variants.{Utf8Error, StringParseError}
 use Rattle.words.specs.declared.digits.Radix.{Radix}
 use Rattle.words.specs.declared.digits.Radix.the-variants.{Decimal}
 use Rattle.words.specs.declared.digits.Parsed.{Parsed}
@@ -18,12 +18,12 @@ use Rattle.strings.specs.declared.text.Measured.{Measured}
 use Rattle.strings.specs.declared.text.Measured.the-variants as M
 use Rattle.strings.specs.Points.{points}
 use Rattle.strings.specs.Text.{text, anySurrogate, measured}
-use Rattle.brackets.specs.Token.{Atom, bits, number, quoted, name, atom, atomText}
+use Rattle.brackets.specs.Token.{Atom, atomText}
 use Rattle.tokens.specs.declared.atom.Sized.{Sized}
 use Rattle.tokens.specs.declared.atom.Sized.the-variants.{Text, Fault}
 use Rattle.tokens.specs.declared.lexeme.Kind.{Kind}
 use Rattle.tokens.specs.declared.lexeme.Kind.the-variants as K
-use Rattle.tokens.specs.Piece.{Piece, token, wrong, fromParsed, pieceOf, sizedOf, sizedNumber, sizedString, sizedName}
+use Rattle.tokens.specs.Piece.{fromParsed, pieceOf, sizedOf, sizedNumber, sizedString, sizedName}
 
 number-sized : (p : Parsed) (make : ℕ → Atom) → ((n : ℕ) → atomText (make n) ≡ []) → sizedNumber p ≡ sizedOf (fromParsed p make)
 number-sized (Number p) make h = sym (ap (λ (l : List ℕ). Text (length l)) (h _))

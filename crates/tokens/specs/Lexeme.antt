@@ -1,5 +1,5 @@
 -- Document 01, "Bytes to tokens": how far what stands at a place reaches, by the class of its first byte.
-use mathlib.Core.Bool.{Bool, cond}
+use mathlib.Core.Bool.{cond}
 use mathlib.Core.List.{List, [], _∷_}
 use Prim.Native.Nat.{ℕ, suc, _+_}
 use lib.Dec.{ltb, eqb}

@@ -1,5 +1,5 @@
 -- Document 01, "Bytes to tokens" and "Numbers given back": the tokens of the input, or the first lexical fault from the left.
-use mathlib.Core.Bool.{Bool, cond}
+use mathlib.Core.Bool.{cond}
 use mathlib.Core.List.{List, [], _∷_}
 use Prim.Native.Nat.{ℕ, zero, suc, _-_, _*_}
 use lib.ListN.{length, take, drop}
@@ -9,7 +9,6 @@ use Rattle.words.specs.declared.digits.Radix.{Radix}
 use Rattle.words.specs.declared.digits.Radix.the-variants.{Binary, Decimal, Hexadecimal}
 use Rattle.words.specs.declared.digits.Parsed.{Parsed}
 use Rattle.words.specs.declared.digits.Parsed.the-variants.{Number, Refused}
-use Rattle.words.specs.declared.pair.Pair.{Pair}
 use Rattle.words.specs.Pair.{value}
 use Rattle.words.specs.Run.{parsed}
 use Rattle.words.specs.Extension.{extended}
@@ -21,7 +20,6 @@ use Rattle.tokens.specs.declared.atom.Sized.{Sized}
 use Rattle.tokens.specs.declared.atom.Sized.the-variants.{Text, Fault}
 use Rattle.tokens.specs.declared.lexeme.Kind.{Kind}
 use Rattle.tokens.specs.declared.lexeme.Kind.the-variants as K
-use Rattle.tokens.specs.declared.lexeme.Lexeme.{Lexeme}
 use Rattle.tokens.specs.Lexeme.{lexemeAt}
 
 -- white space or a comment; a token; a lexical fault

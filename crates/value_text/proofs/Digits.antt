@@ -3,13 +3,14 @@
 use mathlib.Core.Path.{_≡_, refl, sym, ap, _∙_, subst}
 use mathlib.Core.List.{List, [], _∷_, _++_}
 use Prim.Native.Nat.{ℕ, _+_, _*_, _-_, _/_, _%_, _^_, _<_, _≤_}
-use native.Mathlib.Nat.{mod-eq-of-lt, lt-of-lt-of-le, one-mul, add-comm}
+use native.Mathlib.Nat.{mod-eq-of-lt, lt-of-lt-of-le, add-comm}
 use native.Mathlib.Numerals.{add-one}
 use native.Mathlib.Omega.{arith}
 use lib.ListN.{length, take, drop, set}
-use lib.Pow.{pow-pos, pow-mono, shl-exact, mod-pow-add, mod-mod-pow}
+use lib.Pow.{pow-pos, pow-mono, mod-pow-add, mod-mod-pow}
 use borrow.Author.Tests.{lt-ltb, le-ltb}
 use Rattle.words.proofs.Numbers.{value-fits}
+use Rattle.words.proofs.Extends.{unit-is}
 use Rattle.decimals.proofs.Puts.{Putting, putting-step, putting-end}
 use Rattle.values.specs.Text.{hexDigit, hex}
 
@@ -32,11 +33,8 @@ pub last-digit-is : (low high r : ℕ) → r ≡ hexDigit (low % 16) → r ≡ h
 last-digit-is low high r e = let z : low % 16 ≡ (low + high * 2 ^ 64) % 16 = omega arith in e ∙ ap hexDigit z
 
 -- the code's power of two
-unit : (k : ℕ) → k < 64 → 1 * 2 ^ k % 2 ^ 64 ≡ 2 ^ k
-unit k h = shl-exact {a = 1} 1 k 64 (omega arith) (omega arith) ∙ one-mul (2 ^ k)
-
 pub unit-some : (k : ℕ) → k < 64 → 0 < 1 * 2 ^ k % 2 ^ 64
-unit-some k h = subst (λ (n : ℕ). 0 < n) (sym (unit k h)) (pow-pos k)
+unit-some k h = subst (λ (n : ℕ). 0 < n) (sym (unit-is k h)) (pow-pos k)
 
 -- the lowest bits of a number of two words
 module _ (low high w : ℕ) (l : low < 2 ^ 64) where
@@ -48,7 +46,7 @@ module _ (low high w : ℕ) (l : low < 2 ^ 64) where
       let q : (low + high * 2 ^ 64) / 2 ^ 64 ≡ high = omega arith in
       let m : (low + high * 2 ^ 64) % 2 ^ 64 ≡ low = omega arith in
       let e : w - 64 + 64 ≡ w = omega arith in
-      ap (λ (p : ℕ). low + high % p * 2 ^ 64) (unit (w - 64) (omega arith))
+      ap (λ (p : ℕ). low + high % p * 2 ^ 64) (unit-is (w - 64) (omega arith))
       ∙ add-comm low (high % 2 ^ (w - 64) * 2 ^ 64)
       ∙ sym (ap (λ (p : ℕ). (low + high * 2 ^ 64) % 2 ^ p) (sym e) ∙ mod-pow-add (low + high * 2 ^ 64) (w - 64) 64
       ∙ ap (λ (x : ℕ). x % 2 ^ (w - 64) * 2 ^ 64 + (low + high * 2 ^ 64) % 2 ^ 64) q ∙ ap (λ (x : ℕ). high % 2 ^ (w - 64) * 2 ^ 64 + x) m)
@@ -58,7 +56,7 @@ module _ (low high w : ℕ) (l : low < 2 ^ 64) where
       let m : (low + high * 2 ^ 64) % 2 ^ 64 ≡ low = omega arith in
       let e : 64 - w + w ≡ 64 = omega arith in
       let z : low % 2 ^ w + 0 * 2 ^ 64 ≡ low % 2 ^ w = omega arith in
-      ap (λ (p : ℕ). low % p + 0 * 2 ^ 64) (unit w k) ∙ z
+      ap (λ (p : ℕ). low % p + 0 * 2 ^ 64) (unit-is w k) ∙ z
       ∙ sym (sym (mod-mod-pow (low + high * 2 ^ 64) (64 - w) w) ∙ ap (λ (p : ℕ). (low + high * 2 ^ 64) % 2 ^ p % 2 ^ w) e ∙ ap (λ (x : ℕ). x % 2 ^ w) m)
 
 hex-more : (k n : ℕ) → hex (k + 1) n ≡ hex k (n / 16) ++ (hexDigit (n % 16) ∷ [])

@@ -18,7 +18,7 @@ use Rattle.arena.specs.Tree.{Tree, Trees}
 use Rattle.tables.specs.Layout.{Lent, tablesOf}
 use Rattle.tables.specs.Sort.{Tables}
 use Rattle.shapes.specs.declared.shape.Found.{Found}
-use Rattle.shapes.specs.Shape.{Shape, made, other, shape}
+use Rattle.shapes.specs.Shape.{Shape, shape}
 use Rattle.shapes.specs.Shows.{Standing, Shows, ShapeAt}
 use Rattle.sorts.specs.Result.{ok}
 use Rattle.values.specs.Value.{Value, Values, vSet, vNil, vCons, union as both}

@@ -1,7 +1,7 @@
 -- Document 01, "The listing": what is left where a value is written: its text, sets in order without repeats, in the room of the text as it was read.
 use mathlib.Core.Path.{_≡_}
 use mathlib.Core.List.{List, [], _∷_, _++_}
-use mathlib.Core.Option.{Option, some}
+use mathlib.Core.Option.{Option}
 use Prim.Native.Nat.{ℕ, zero, suc, _≤_}
 use lib.ListN.{length}
 use Rattle.ground.specs.Bytes.{bytes}

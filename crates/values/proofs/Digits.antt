@@ -10,11 +10,12 @@ use native.Mathlib.Bridge.{le-by-compare, IsLe}
 use lib.Dec.{ltb, eqb, lit≤, leb→le, ltb→lt}
 use lib.IntN.{ℤ, pos, negsuc, negℤ}
 use lib.Signed.{_≤ℤ_, _<ℤ_}
-use borrow.Author.Tests.{ltb-true, ltb-false, le-leb}
+use borrow.Author.Tests.{ltb-true, ltb-false}
 use Rattle.ground.specs.Lists.{all}
 use Rattle.ground.proofs.Tests.{by-test, both-left, both-right, both}
 use Rattle.words.specs.Radix.{within}
 use Rattle.words.specs.Run.{number}
+use Rattle.words.proofs.Worths.{inside}
 use Rattle.decimals.specs.Decimal.{lastDigits, digitCount, decimal, signedDecimal}
 use Rattle.decimals.proofs.Values.{decimal-number}
 use Rattle.values.specs.Text.{hexDigit, hex, hexText, hexWidth}
@@ -66,9 +67,6 @@ last-same (a ∷ xs) [] x y e = absurd (no-last xs x (sym (tail-eq-of-cons-eq e)
 last-same (a ∷ xs) (b ∷ ys) x y e =
     let w = last-same xs ys x y (tail-eq-of-cons-eq e) in
     (ap₂ {C = List ℕ} (λ (h : ℕ) (t : List ℕ). h ∷ t) (head-eq-of-cons-eq e) (w .0), w .1)
-
-pub inside : (least most b : ℕ) → least ≤ b → b ≤ most → within least most b ≡ true
-inside least most b h k = rw (le-leb least b h, le-leb b most k)
 
 pub is-digit : (d : ℕ) → d < 16 → isHexDigit (hexDigit d) ≡ true
 unfolding hexDigit

@@ -11,6 +11,7 @@ use Rattle.ground.specs.Bytes.{bytes}
 use Rattle.ground.specs.Lists.{all, joined}
 use Rattle.ground.proofs.Tests.{by-test, both-left, both-right, both}
 use Rattle.words.specs.Radix.{within}
+use Rattle.words.proofs.Worths.{inside}
 use Rattle.decimals.specs.Decimal.{decimal, signedDecimal}
 use Rattle.runs.specs.Run.{end, stop, plain, key}
 use Rattle.tables.specs.Sort.{decimal as isDecimal, datetime, duration, Tables}
@@ -18,7 +19,7 @@ use Rattle.values.specs.Value.{Value, Values, vBool, vString, vExt, vBit
 use Rattle.values.specs.Text.{text, texts, hex, hexText, hexWidth}
 use Rattle.values.specs.HasSort.{HasSort, HaveSort, FieldSorts}
 use Rattle.values.proofs.Alls.{all-append, all-by, all-joined}
-use Rattle.values.proofs.Digits.{inside, isHexDigit, inRun, run-of, hexText-digits, hex-digits, decimal-digits, signed-run}
+use Rattle.values.proofs.Digits.{isHexDigit, inRun, run-of, hexText-digits, hex-digits, decimal-digits, signed-run}
 
 abbrev pub printable : ℕ → Bool
 printable b = within 33 126 b

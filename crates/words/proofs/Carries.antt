@@ -1,14 +1,13 @@
 -- One digit more, over the base: four half words, each times the base with the carry of the one below it.
 -- Assumes nothing.
-use mathlib.Core.Path.{_≡_, refl, sym, ap, ap₂, _∙_, subst}
+use mathlib.Core.Path.{_≡_, sym, ap, _∙_}
 use Prim.Native.Nat.{ℕ, _+_, _*_, _/_, _%_, _^_, _≤_, _<_}
 use native.Mathlib.Nat.{add-mul, mul-assoc, mul-comm, mul-le-mul, div-add-mod'}
 use native.Mathlib.Omega.{arith}
 use Rattle.words.specs.declared.digits.Radix.{Radix}
 use Rattle.words.specs.declared.digits.Radix.the-variants.{Binary, Decimal, Hexadecimal}
-use Rattle.words.specs.declared.pair.Grown.{Grown}
 use Rattle.words.specs.declared.pair.Grown.the-variants.{Fit, Over}
-use Rattle.words.specs.Pair.{pairOf, grown}
+use Rattle.words.specs.Pair.{grown}
 use Rattle.words.specs.Radix.{baseOf}
 use Rattle.words.proofs.Numbers.{too-large, fitting, pair-is, grown-fit, grown-over}
 

@@ -1,7 +1,7 @@
 -- Sign extension: in one word, and in the pair.
 -- Assumes nothing.
 use mathlib.Core.Path.{_≡_, refl, sym, ap, ap₂, _∙_, subst}
-use mathlib.Core.Bool.{Bool, true, false, cond, _&&_}
+use mathlib.Core.Bool.{true, false, _&&_}
 use Prim.Native.Nat.{ℕ, _+_, _-_, _*_, _/_, _%_, _^_, _≤_, _<_}
 use native.Mathlib.Nat.{add-comm, add-mul, mod-lt, one-mul}
 use native.Mathlib.Omega.{arith}
@@ -10,13 +10,12 @@ use lib.Bits.{bitAnd, and-mask}
 use lib.Pow.{pow-pos, pow-mono, pow-lt, pow-add, shl-exact, mod-pow-add, mod-mod-pow}
 use borrow.Author.Tests.{lt-ltb, le-ltb, le-leb, lt-leb}
 use Rattle.ground.proofs.Tests.{by-test, and-false}
-use Rattle.words.specs.declared.pair.Filled.{Filled}
 use Rattle.words.specs.declared.pair.Filled.the-variants.{Negative, Positive}
 use Rattle.words.specs.Extension.{negative, filled, extended, extendedWord}
 use Rattle.words.proofs.Powers.{leb-high, power-high}
 
 -- the code's one bit
-unit-is : (bit : ℕ) → bit < 64 → 1 * 2 ^ bit % 2 ^ 64 ≡ 2 ^ bit
+pub unit-is : (bit : ℕ) → bit < 64 → 1 * 2 ^ bit % 2 ^ 64 ≡ 2 ^ bit
 unit-is bit h = shl-exact {a = 1} 1 bit 64 (omega arith) (omega arith) ∙ one-mul (2 ^ bit)
 
 module _ (bit n : ℕ) where

@@ -9,7 +9,6 @@ use native.Mathlib.Omega.{arith}
 use borrow.Author.Tests.{lt-ltb, le-ltb}
 use Rattle.ground.proofs.Tests.{by-order}
 use Rattle.words.specs.declared.pair.Pair.{Pair}
-use Rattle.words.specs.declared.pair.Grown.{Grown}
 use Rattle.words.specs.declared.pair.Grown.the-variants.{Fit, Over}
 use Rattle.words.specs.Pair.{value, pairOf, grown}
 

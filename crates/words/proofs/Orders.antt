@@ -1,11 +1,9 @@
 -- The order of two numbers, and of a number and a power of two.
 -- Assumes nothing.
-use mathlib.Core.Path.{_≡_, refl, sym, ap, _∙_, subst}
-use mathlib.Core.Bool.{Bool, cond}
-use Prim.Native.Nat.{ℕ, _+_, _*_, _/_, _^_, _≤_, _<_}
+use mathlib.Core.Path.{_≡_}
+use Prim.Native.Nat.{ℕ, _+_, _*_, _^_, _≤_, _<_}
 use native.Mathlib.Omega.{arith}
 use borrow.Author.Tests.{lt-ltb, le-ltb}
-use Rattle.words.specs.declared.pair.Order.{Order}
 use Rattle.words.specs.declared.pair.Order.the-variants.{Less, Same, More}
 use Rattle.words.specs.declared.pair.Pair.{Pair}
 use Rattle.words.specs.Pair.{value, ordered}

@@ -1,14 +1,15 @@
 -- A run of digits, one after the other: what is left of it decides as the whole did.
 -- Assumes nothing.
 use mathlib.Core.Path.{_≡_, refl, sym, ap, _∙_, subst}
-use mathlib.Core.Bool.{Bool, true, false, cond, _&&_}
+use mathlib.Core.Bool.{cond, _&&_}
 use mathlib.Core.List.{List, [], _∷_}
-use Prim.Native.Nat.{ℕ, zero, suc, _+_, _*_, _^_, _≤_, _<_}
+use Prim.Native.Nat.{ℕ, _+_, _*_, _^_, _≤_, _<_}
 use native.Mathlib.Nat.{le-trans, mul-le-mul-left, mul-one}
 use native.Mathlib.Omega.{arith}
 use lib.Dec.{ltb, lit<}
 use lib.ListN.{length, getD, drop, drop-of-length-le}
 use borrow.Author.Tests.{lt-ltb, le-ltb}
+use Rattle.ground.specs.Lists.{all}
 use Rattle.ground.proofs.Lists.{at-place}
 use Rattle.ground.proofs.Tests.{and-false}
 use Rattle.refusals.specs.declared.Refusal.the-variants.{ParseIntError}
@@ -19,8 +20,8 @@ use Rattle.words.specs.declared.pair.Pair.{Pair}
 use Rattle.words.specs.declared.pair.Grown.{Grown}
 use Rattle.words.specs.declared.pair.Grown.the-variants.{Fit, Over}
 use Rattle.words.specs.Pair.{value, pairOf, grown}
-use Rattle.words.specs.Radix.{baseOf, worth, isDigit}
-use Rattle.words.specs.Run.{from, number, digits, someByte, parsed}
+use Rattle.words.specs.Radix.{baseOf, worth}
+use Rattle.words.specs.Run.{from, digits, parsed}
 use Rattle.words.proofs.Numbers.{too-far, fit-value, fit-fits, fit-words}
 use Rattle.words.proofs.Carries.{base-large}
 
@@ -61,7 +62,7 @@ sofar-start r s p h e =
 
 -- the three ways that one byte can go
 after-none : (r : Radix) (n b : ℕ) (bs : List ℕ) → baseOf r ≤ worth b → after r n (b ∷ bs) ≡ Refused ParseIntError
-unfolding after digits
+unfolding after all
 after-none r n b bs h = rw (le-ltb (worth b) (baseOf r) h)
 
 after-over : (r : Radix) (n b : ℕ) (bs : List ℕ) → 2 ^ 128 ≤ n * baseOf r + worth b → after r n (b ∷ bs) ≡ Refused ParseIntError
@@ -71,7 +72,7 @@ after-over r n b bs h =
     (rw (and-false (digits r (b ∷ bs))))
 
 after-more : (r : Radix) (n b : ℕ) (bs : List ℕ) → worth b < baseOf r → after r n (b ∷ bs) ≡ after r (n * baseOf r + worth b) bs
-unfolding after from digits
+unfolding after from all
 after-more r n b bs h = rw (lt-ltb (worth b) (baseOf r) h)
 
 module _ (r : Radix) (s : List ℕ) (p : Pair) (i d base : ℕ) (sofar : Sofar r s p i) (less : i < length s) (is : d ≡ worth (getD s i 0)) (of : base ≡ baseOf r) where
@@ -96,7 +97,7 @@ module _ (r : Radix) (s : List ℕ) (p : Pair) (i d base : ℕ) (sofar : Sofar r
     }
 
 pub sofar-end : (r : Radix) (s : List ℕ) (p : Pair) (i : ℕ) → Sofar r s p i → length s ≤ i → Number p ≡ parsed r s
-unfolding after from digits
+unfolding after from all
 sofar-end r s p i h past =
     ap Number (h .words)
     ∙ sym (rw (lt-ltb (value p) (2 ^ 128) (h .fits)))

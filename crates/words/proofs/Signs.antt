@@ -1,17 +1,16 @@
 -- What sign extension means: read as signed at 128 bits, the result is the signed value at the width.
 -- Assumes nothing.
 use mathlib.Core.Path.{_≡_, refl, sym, ap, _∙_, subst}
-use mathlib.Core.Bool.{Bool, true, false, cond}
 use Prim.Native.Nat.{ℕ, zero, suc, _+_, _-_, _*_, _%_, _^_, _≤_, _<_}
 use native.Mathlib.Nat.{mod-eq-of-lt, one-mul, zero-mul}
 use native.Mathlib.Omega.{arith}
-use lib.Dec.{T, leb, ltb, le→leb, lt→ltb}
+use lib.Dec.{T, leb, le→leb, lt→ltb}
 use lib.IntN.{ℤ, pos, negsuc, negℤ, _+ℤ_, _-ℤ_, +ℤ-idr, -ℤ-+ℤ-cancel}
-use lib.Signed.{ltZ, leZ, _≤ℤ_, _<ℤ_}
+use lib.Signed.{ltZ, leZ}
 use lib.Pow.{pow-pos, pow-mono, pow-add}
 use borrow.Author.Tests.{lt-ltb, le-ltb, le-leb, lt-leb}
 use Rattle.ground.proofs.Tests.{by-order}
-use Rattle.words.specs.Extension.{signed, SignedOf, negative, filled, extended}
+use Rattle.words.specs.Extension.{signed, SignedOf, filled, extended}
 use Rattle.words.proofs.Extends.{extended-wide, extended-positive, extended-negative}
 
 pub minus : (v m : ℕ) → v < m → pos v -ℤ pos m ≡ negsuc (m - v - 1)

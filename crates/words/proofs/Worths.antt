@@ -1,7 +1,7 @@
 -- What a byte is worth as a digit, by the range that it lies in.
 -- Assumes nothing.
-use mathlib.Core.Path.{_≡_, refl, sym, ap, _∙_, subst}
-use mathlib.Core.Bool.{Bool, true, false, cond, _&&_}
+use mathlib.Core.Path.{_≡_, _∙_}
+use mathlib.Core.Bool.{Bool, true, false, cond}
 use Prim.Native.Nat.{ℕ, _+_, _-_, _%_, _^_, _≤_, _<_}
 use native.Mathlib.Omega.{arith}
 use lib.Dec.{leb}
@@ -10,7 +10,7 @@ use Rattle.ground.proofs.Tests.{and-false, by-order}
 use Rattle.words.specs.Radix.{within, worth}
 
 module _ (least most b : ℕ) where
-  inside : least ≤ b → b ≤ most → within least most b ≡ true
+  pub inside : least ≤ b → b ≤ most → within least most b ≡ true
   inside h k = rw (le-leb least b h) (rw (le-leb b most k))
 
   under : b < least → within least most b ≡ false

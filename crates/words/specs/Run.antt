@@ -3,7 +3,7 @@ use mathlib.Core.Bool.{Bool, true, false, cond, _&&_}
 use mathlib.Core.List.{List, [], _∷_}
 use Prim.Native.Nat.{ℕ, _+_, _*_, _^_}
 use lib.Dec.{ltb}
-use Rattle.refusals.specs.declared.Refusal.{Refusal}
+use Rattle.ground.specs.Lists.{all}
 use Rattle.refusals.specs.declared.Refusal.the-variants.{ParseIntError}
 use Rattle.words.specs.declared.digits.Radix.{Radix}
 use Rattle.words.specs.declared.digits.Parsed.{Parsed}
@@ -19,9 +19,8 @@ from base n (b ∷ bs) = from base (n * base + worth b) bs
 abbrev pub number : ℕ → List ℕ → ℕ
 number base s = from base 0 s
 
-unfoldable pub digits : Radix → List ℕ → Bool
-digits r [] = true
-digits r (b ∷ bs) = isDigit r b && digits r bs
+abbrev pub digits : Radix → List ℕ → Bool
+digits r s = all (isDigit r) s
 
 abbrev pub someByte : List ℕ → Bool
 someByte [] = false

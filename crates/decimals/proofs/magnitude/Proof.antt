@@ -1,6 +1,5 @@
 use native.Mathlib.Omega.{arith}
 use Rattle.decimals.proofs.Magnitudes.{negative, nonnegative}
-use borrow.Author.Needs.{needs}
 use Rattle.decimals.proofs.magnitude.Statement.{statement}
 use Rattle.decimals.proofs.magnitude.Tie as tie
 use Rattle.decimals.proofs.magnitude.Reads as reads

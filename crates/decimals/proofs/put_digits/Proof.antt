@@ -1,5 +1,4 @@
 use Prim.Native.Nat.{_-_}
-use native.Mathlib.Omega.{arith}
 use Rattle.decimals.specs.Decimal.{lastDigits}
 use Rattle.decimals.proofs.Puts.{Putting, putting-start, put-within, digit-step, digits-end}
 use borrow.Author.Needs.{needs}

@@ -1,11 +1,10 @@
 use mathlib.Core.Path.{sym, ap, _∙_}
-use mathlib.Core.List.{List, _∷_}
-use Prim.Native.Nat.{ℕ, suc}
+use mathlib.Core.List.{List}
+use Prim.Native.Nat.{ℕ}
 use native.Mathlib.Omega.{arith}
 use lib.ListN.{length}
 use Rattle.decimals.proofs.Counts.{count-most}
 use Rattle.decimals.proofs.Texts.{signed-negative, signed-natural, length-decimal}
-use Rattle.decimals.specs.Decimal.{decimal}
 use borrow.Author.Needs.{needs}
 use Rattle.decimals.proofs.signed_length.Statement.{statement}
 use Rattle.decimals.proofs.signed_length.Tie as tie

@@ -1,5 +1,4 @@
 use mathlib.Core.Path.{refl}
-use borrow.Author.Needs.{needs}
 use Rattle.arena.proofs.text.alike.Statement.{statement}
 use Rattle.arena.proofs.text.alike.Tie as tie
 use Rattle.arena.proofs.text.alike.Reads as reads

@@ -1,4 +1,4 @@
-use mathlib.Core.Path.{_≡_, refl, sym, _∙_}
+use mathlib.Core.Path.{sym}
 use native.Mathlib.Omega.{arith}
 use Rattle.arena.proofs.Texts.{same-lengths, same-none, same-stop}
 use borrow.Author.Needs.{needs}

@@ -1,4 +1,3 @@
-use mathlib.Core.Path.{_≡_, _∙_}
 use borrow.Author.Needs.{needs}
 use Rattle.brackets.proofs.nodes.put_leaf.Statement.{statement}
 use Rattle.brackets.proofs.nodes.put_leaf.Tie as tie

@@ -1,5 +1,3 @@
-use mathlib.Core.Path.{refl, sym, _∙_, ap, subst}
-use native.Mathlib.Omega.{arith}
 use Rattle.definitions.proofs.Arms.{arm-keyed, arm-shapeless}
 use borrow.Author.Needs.{needs}
 use Rattle.definitions.proofs.body.check_arm.Statement.{statement}

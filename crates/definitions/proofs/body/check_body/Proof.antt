@@ -1,5 +1,3 @@
-use mathlib.Core.Path.{refl, sym, _∙_, ap, subst}
-use native.Mathlib.Omega.{arith}
 use Rattle.definitions.proofs.Functions.{body-chain, body-other, body-tests}
 use borrow.Author.Needs.{needs}
 use Rattle.definitions.proofs.body.check_body.Statement.{statement}

@@ -1,4 +1,3 @@
-use mathlib.Core.Path.{refl, sym, _∙_, ap, subst}
 use native.Mathlib.Omega.{arith}
 use Rattle.definitions.proofs.Chains.{LeftAt, chain-start, chain-past, chain-behind, chain-refused, chain-next, chain-end}
 use lib.ListN.{length as lengthOf}

@@ -1,4 +1,3 @@
-use mathlib.Core.Path.{refl, sym, _∙_, ap, subst}
 use native.Mathlib.Omega.{arith}
 use Rattle.definitions.proofs.Tests.{LeftAt, tests-start, tests-end, tests-refused, tests-next}
 use Prim.Native.Nat.{_-_, _≤_}

@@ -1,7 +1,6 @@
-use mathlib.Core.Path.{refl, sym, _∙_, ap, subst}
-use native.Mathlib.Omega.{arith}
+use mathlib.Core.Path.{sym, _∙_, ap}
 use Rattle.definitions.specs.declared.measure.Measured.{Measured}
-use Rattle.definitions.specs.Measure.{closedAs, testAs}
+use Rattle.definitions.specs.Measure.{closedAs}
 use Rattle.literals.specs.Answer.{capped}
 use Prim.Native.Nat.{ℕ, _+_}
 use borrow.Author.Needs.{needs}

@@ -1,9 +1,6 @@
-use mathlib.Core.Path.{refl, sym, _∙_, ap, subst}
-use native.Mathlib.Omega.{arith}
+use mathlib.Core.Path.{sym, _∙_, ap}
 use Rattle.definitions.specs.declared.measure.Measured.{Measured}
-use Rattle.definitions.specs.Measure.{closedAs, testAs}
-use Rattle.literals.specs.Answer.{capped}
-use Prim.Native.Nat.{ℕ, _+_}
+use Rattle.definitions.specs.Measure.{testAs}
 use borrow.Author.Needs.{needs}
 use Rattle.definitions.proofs.body.test_as.Statement.{statement}
 use Rattle.definitions.proofs.body.test_as.Tie as tie

@@ -1,5 +1,3 @@
-use mathlib.Core.Path.{refl, sym, _∙_, ap, subst}
-use native.Mathlib.Omega.{arith}
 use Rattle.definitions.proofs.Functions.{function-first, function-second, function-argument, function-result, function-body}
 use borrow.Author.Needs.{needs}
 use Rattle.definitions.proofs.function.check_function.Statement.{statement}

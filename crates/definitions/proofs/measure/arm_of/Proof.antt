@@ -1,5 +1,4 @@
-use mathlib.Core.Path.{refl, sym, _∙_, ap, subst}
-use native.Mathlib.Omega.{arith}
+use mathlib.Core.Path.{_∙_, ap}
 use Rattle.definitions.proofs.Measures.{arm-first, arm-second, arm-key, arm-value, arm-both}
 use Rattle.literals.specs.Answer.{capped}
 use Prim.Native.Nat.{ℕ, _+_}

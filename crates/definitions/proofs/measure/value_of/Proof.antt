@@ -1,5 +1,3 @@
-use mathlib.Core.Path.{refl, sym, _∙_, ap, subst}
-use native.Mathlib.Omega.{arith}
 use Rattle.definitions.proofs.Measures.{value-other, value-same, value-refused}
 use borrow.Author.Needs.{needs}
 use Rattle.definitions.proofs.measure.value_of.Statement.{statement}

@@ -1,5 +1,3 @@
-use mathlib.Core.Path.{refl, sym, _∙_, ap, subst}
-use native.Mathlib.Omega.{arith}
 use Rattle.definitions.proofs.Variables.{variable-sort, variable-value}
 use borrow.Author.Needs.{needs}
 use Rattle.definitions.proofs.variable.check_variable.Statement.{statement}

@@ -1,5 +1,3 @@
-use mathlib.Core.Path.{refl, sym, _∙_, ap, subst}
-use native.Mathlib.Omega.{arith}
 use Rattle.definitions.proofs.Measures.{declared-other, declared-same, declared-refused}
 use borrow.Author.Needs.{needs}
 use Rattle.definitions.proofs.variable.declared_as.Statement.{statement}

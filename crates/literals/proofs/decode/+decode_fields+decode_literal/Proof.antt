@@ -1,5 +1,5 @@
 use Rattle.literals.specs.Answer.{capped}
-use mathlib.Core.Path.{refl, sym, _∙_, ap, subst}
+use mathlib.Core.Path.{refl, sym, _∙_, ap}
 use Prim.Native.Nat.{_*_, _+_, _-_, _≤_}
 use native.Mathlib.Omega.{arith}
 use Rattle.literals.proofs.Walks.{LeftAt, left-start, left-end, left-refused, left-next}

@@ -1,5 +1,3 @@
-use mathlib.Core.Path.{refl, sym, _∙_, ap, subst}
-use native.Mathlib.Omega.{arith}
 use Rattle.literals.proofs.Fields.{field-other, field-takes, field-refused}
 use borrow.Author.Needs.{needs}
 use Rattle.literals.proofs.decode.field_of.Statement.{statement}

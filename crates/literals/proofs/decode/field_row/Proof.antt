@@ -1,4 +1,3 @@
-use mathlib.Core.Path.{refl, sym, _∙_, ap, subst}
 use native.Mathlib.Omega.{arith}
 use Rattle.literals.proofs.Fields.{no-field}
 use borrow.Author.Needs.{needs}

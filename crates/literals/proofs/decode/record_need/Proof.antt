@@ -1,4 +1,3 @@
-use mathlib.Core.Path.{refl, sym, _∙_, ap, subst}
 use native.Mathlib.Omega.{arith}
 use Rattle.decimals.proofs.Counts.{count-most}
 use Rattle.literals.proofs.Fields.{record-none, record-some}

@@ -1,4 +1,4 @@
-use mathlib.Core.Path.{refl, sym, _∙_, ap, subst}
+use mathlib.Core.Path.{sym, _∙_}
 use native.Mathlib.Omega.{arith}
 use Rattle.literals.proofs.Made.{entity-many, entity-other, entity-string}
 use borrow.Author.Needs.{needs}

@@ -1,5 +1,4 @@
-use mathlib.Core.Path.{refl, sym, _∙_, ap, subst}
-use native.Mathlib.Omega.{arith}
+use mathlib.Core.Path.{refl}
 use Rattle.literals.proofs.Plans.{arm-operator, arm-other, arm-none, arm-empty, arm-as-some, arm-some, arm-singleton, arm-union, arm-extension, arm-indexed, arm-made}
 use borrow.Author.Needs.{needs}
 use Rattle.literals.proofs.plan.plan_app.Statement.{statement}

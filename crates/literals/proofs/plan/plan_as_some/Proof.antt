@@ -1,5 +1,3 @@
-use mathlib.Core.Path.{refl, sym, _∙_, ap, subst}
-use native.Mathlib.Omega.{arith}
 use Rattle.literals.proofs.Plans.{as-some-refused, as-some-row, as-some-any}
 use borrow.Author.Needs.{needs}
 use Rattle.literals.proofs.plan.plan_as_some.Statement.{statement}

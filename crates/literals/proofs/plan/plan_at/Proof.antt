@@ -1,5 +1,4 @@
-use mathlib.Core.Path.{refl, sym, _∙_, ap, subst}
-use native.Mathlib.Omega.{arith}
+use mathlib.Core.Path.{sym, _∙_}
 use Rattle.literals.proofs.Plans.{at-numeral, at-nothing, at-bits, at-string, at-symbol, at-app}
 use borrow.Author.Needs.{needs}
 use Rattle.literals.proofs.plan.plan_at.Statement.{statement}

@@ -1,5 +1,4 @@
-use mathlib.Core.Path.{refl, sym, _∙_, ap, subst}
-use native.Mathlib.Omega.{arith}
+use mathlib.Core.Path.{sym, ap}
 use Rattle.literals.specs.declared.form.Form.{Form}
 use Rattle.literals.specs.Plan.{thenOf}
 use Rattle.literals.proofs.Plans.{inside-mismatch, inside-one}

@@ -1,5 +1,3 @@
-use mathlib.Core.Path.{refl, sym, _∙_, ap, subst}
-use native.Mathlib.Omega.{arith}
 use Rattle.literals.proofs.Made.{made-row, made-none}
 use borrow.Author.Needs.{needs}
 use Rattle.literals.proofs.plan.plan_made.Statement.{statement}

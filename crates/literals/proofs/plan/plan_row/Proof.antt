@@ -1,5 +1,4 @@
-use mathlib.Core.Path.{refl, sym, _∙_, ap, subst}
-use native.Mathlib.Omega.{arith}
+use mathlib.Core.Path.{refl}
 use Rattle.literals.proofs.Made.{row-nameless, row-entity, row-record}
 use borrow.Author.Needs.{needs}
 use Rattle.literals.proofs.plan.plan_row.Statement.{statement}

@@ -1,5 +1,3 @@
-use mathlib.Core.Path.{refl, sym, _∙_, ap, subst}
-use native.Mathlib.Omega.{arith}
 use Rattle.literals.proofs.Made.{record-refused, record-planned}
 use borrow.Author.Needs.{needs}
 use Rattle.literals.proofs.plan.record_of.Statement.{statement}

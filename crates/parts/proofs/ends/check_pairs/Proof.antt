@@ -1,4 +1,3 @@
-use native.Mathlib.Omega.{arith}
 use Rattle.parts.proofs.Rises.{odd-falls, even-risen}
 use borrow.Author.Needs.{needs}
 use Rattle.parts.proofs.ends.check_pairs.Statement.{statement}

@@ -1,7 +1,6 @@
-use mathlib.Core.Path.{_≡_, refl, sym, ap}
+use mathlib.Core.Path.{refl}
 use native.Mathlib.Omega.{arith}
 use borrow.Author.Tests.{le-ltb, lt-ltb}
-use borrow.Author.Needs.{needs}
 use Rattle.parts.proofs.ends.exceeds.Statement.{statement}
 use Rattle.parts.proofs.ends.exceeds.Tie as tie
 use Rattle.parts.proofs.ends.exceeds.Reads as reads

@@ -1,6 +1,5 @@
 use mathlib.Core.Path.{_∙_}
 use Prim.Native.Nat.{_-_}
-use native.Mathlib.Omega.{arith}
 use lib.ListN.{length}
 use Rattle.parts.proofs.Trails.{Trailing, trailing-start, trailing-next, trailing-step, trailing-end}
 use borrow.Author.Needs.{needs}

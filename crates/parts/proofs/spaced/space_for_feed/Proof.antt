@@ -1,6 +1,5 @@
 use mathlib.Core.Path.{refl}
 use borrow.Author.Tests.{eq-eqb, ne-eqb}
-use borrow.Author.Needs.{needs}
 use Rattle.parts.proofs.spaced.space_for_feed.Statement.{statement}
 use Rattle.parts.proofs.spaced.space_for_feed.Tie as tie
 use Rattle.parts.proofs.spaced.space_for_feed.Reads as reads

@@ -1,4 +1,4 @@
-use mathlib.Core.Path.{_≡_, refl, sym, ap, _∙_}
+use mathlib.Core.Path.{sym, ap, _∙_}
 use Rattle.reader.specs.declared.tally.Tally.{Tally}
 use Rattle.reader.specs.Judge.{judged}
 use borrow.Author.Needs.{needs}

@@ -1,5 +1,4 @@
 use Rattle.reader.proofs.Answers.{room-nodes, room-text, room-depth, room-all}
-use borrow.Author.Needs.{needs}
 use Rattle.reader.proofs.read.judge_room.Statement.{statement}
 use Rattle.reader.proofs.read.judge_room.Tie as tie
 use Rattle.reader.proofs.read.judge_room.Reads as reads

@@ -1,4 +1,4 @@
-use mathlib.Core.Path.{_≡_, refl, sym, ap, _∙_}
+use mathlib.Core.Path.{sym, ap, _∙_}
 use Rattle.reader.specs.Judge.{byPhase}
 use borrow.Author.Needs.{needs}
 use Rattle.reader.proofs.read.judge_scan.Statement.{statement}

@@ -1,6 +1,5 @@
-use mathlib.Core.Path.{_≡_, refl, sym, _∙_}
+use mathlib.Core.Path.{refl, sym, _∙_}
 use Rattle.words.specs.declared.digits.Radix.the-variants.{Decimal}
-use Rattle.brackets.specs.Token.{Atom}
 use Rattle.brackets.specs.Token as T
 use Rattle.reader.proofs.Atoms.{no-fault, number-fine, number-left, numeral-words}
 use borrow.Author.Needs.{needs}

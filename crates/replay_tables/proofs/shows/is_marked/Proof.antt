@@ -1,7 +1,5 @@
-use mathlib.Core.Path.{_≡_, _∙_}
 use Prim.Native.Nat.{_-_, _≤_}
-use native.Mathlib.Omega.{arith}
-use lib.ListN.{length, length-set}
+use lib.ListN.{length}
 use borrow.Author.Needs.{needs}
 use Rattle.replay_tables.proofs.shows.is_marked.Statement.{statement}
 use Rattle.replay_tables.proofs.shows.is_marked.Tie as tie

@@ -1,7 +1,6 @@
 use Prim.Native.Nat.{_*_, _+_}
 use native.Mathlib.Omega.{arith}
 use Rattle.runs.proofs.Pairs.{pairs-within, place-read}
-use borrow.Author.Needs.{needs}
 use Rattle.runs.proofs.places.place.Statement.{statement}
 use Rattle.runs.proofs.places.place.Tie as tie
 use Rattle.runs.proofs.places.place.Reads as reads

@@ -1,14 +1,10 @@
-use mathlib.Core.Path.{_≡_, refl, sym, ap, _∙_}
-use mathlib.Core.Bool.{true, false, _&&_}
+use mathlib.Core.Path.{sym, ap, _∙_}
 use mathlib.Core.List.{[], _∷_}
-use Prim.Native.Nat.{ℕ, _+_, _-_, _*_, _/_, _%_}
-use Prim.Native.String.{String}
+use Prim.Native.Nat.{ℕ, _+_, _-_, _*_}
 use native.Mathlib.Omega.{arith}
-use lib.Dec.{eqb}
 use lib.ListN.{length}
 use Rattle.ground.specs.Bytes.{bytes}
-use Rattle.lent.proofs.Offers.{offers-then, offers-as}
-use Rattle.parts.specs.Parts.{parts, rise, lastFrom, endsRight}
+use Rattle.parts.specs.Parts.{parts, rise, lastFrom}
 use Rattle.parts.proofs.Limits.{none-long, exceeds-one, all-short}
 use Rattle.script.proofs.Scripts.{scripted-long, scripted-bad, scripted-short, scripted-line}
 use Rattle.script.specs.Line.{indent}

@@ -1,4 +1,3 @@
-use native.Mathlib.Omega.{arith}
 use Rattle.lent.proofs.Offers.{offers-as}
 use Rattle.parts.specs.Parts.{parts}
 use Rattle.script.proofs.Lengths.{datatype-bare, datatype-parametric}

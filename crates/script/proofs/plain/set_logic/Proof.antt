@@ -1,5 +1,4 @@
 use mathlib.Core.Bool.{true}
-use native.Mathlib.Omega.{arith}
 use Rattle.script.proofs.Scripts.{scripted-as}
 use Rattle.script.proofs.Lines.{set-logic-line}
 use borrow.Author.Needs.{needs}

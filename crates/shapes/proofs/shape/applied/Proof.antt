@@ -1,5 +1,4 @@
 use mathlib.Core.Path.{sym, _∙_}
-use native.Mathlib.Omega.{arith}
 use Rattle.shapes.proofs.Heads.{applied-one, applied-two, applied-ite, applied-three, applied-made}
 use borrow.Author.Needs.{needs}
 use Rattle.shapes.proofs.shape.applied.Statement.{statement}

@@ -1,5 +1,4 @@
 use mathlib.Core.Path.{sym, _∙_}
-use native.Mathlib.Omega.{arith}
 use Rattle.shapes.proofs.Arms.{ext-not-wide, ext-decimal, ext-datetime, ext-duration, ext-made}
 use borrow.Author.Needs.{needs}
 use Rattle.shapes.proofs.shape.extension.Statement.{statement}

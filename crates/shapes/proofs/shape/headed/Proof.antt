@@ -1,5 +1,4 @@
 use mathlib.Core.Path.{sym, _∙_}
-use native.Mathlib.Omega.{arith}
 use Rattle.shapes.proofs.Heads.{headed-parts, headed-many, headed-first, headed-not-as, headed-second, headed-not-some, headed-some}
 use borrow.Author.Needs.{needs}
 use Rattle.shapes.proofs.shape.headed.Statement.{statement}

@@ -1,5 +1,4 @@
 use mathlib.Core.Path.{sym, _∙_}
-use native.Mathlib.Omega.{arith}
 use Rattle.shapes.proofs.Arms.{one-not, one-bvnego, one-some, one-singleton, one-ext}
 use borrow.Author.Needs.{needs}
 use Rattle.shapes.proofs.shape.one.Statement.{statement}

@@ -1,4 +1,3 @@
-use mathlib.Core.Path.{sym, _∙_}
 use native.Mathlib.Omega.{arith}
 use Rattle.shapes.proofs.Heads.{shape-none, shape-empty, shape-head}
 use Rattle.shapes.proofs.Seen.{list-within}

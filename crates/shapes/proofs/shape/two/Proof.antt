@@ -1,5 +1,4 @@
 use mathlib.Core.Path.{sym, _∙_}
-use native.Mathlib.Omega.{arith}
 use Rattle.shapes.proofs.Arms.{two-or, two-equal, two-bvsaddo, two-bvsmulo, two-union, two-v4, two-v6, two-pair}
 use borrow.Author.Needs.{needs}
 use Rattle.shapes.proofs.shape.two.Statement.{statement}

@@ -1,5 +1,4 @@
 use mathlib.Core.Path.{sym, _∙_}
-use native.Mathlib.Omega.{arith}
 use Rattle.shapes.proofs.Pairs.{pair-other, pair-index, pair-none, pair-empty, pair-other-word, pair-named}
 use borrow.Author.Needs.{needs}
 use Rattle.shapes.proofs.shape.worded.Statement.{statement}

@@ -1,5 +1,3 @@
-use mathlib.Core.Path.{sym, _∙_}
-use native.Mathlib.Omega.{arith}
 use Rattle.shapes.proofs.Sorts.{list-none, list-word, list-one, list-two, list-other}
 use borrow.Author.Needs.{needs}
 use Rattle.shapes.proofs.sort.sort_list.Statement.{statement}

@@ -1,5 +1,4 @@
 use mathlib.Core.Path.{sym, _∙_}
-use native.Mathlib.Omega.{arith}
 use Rattle.shapes.proofs.Sorts.{one-option, one-set, one-none}
 use borrow.Author.Needs.{needs}
 use Rattle.shapes.proofs.sort.sort_one.Statement.{statement}

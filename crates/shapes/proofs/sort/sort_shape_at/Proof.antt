@@ -1,4 +1,3 @@
-use mathlib.Core.Path.{sym, _∙_}
 use native.Mathlib.Omega.{arith}
 use Rattle.shapes.proofs.Sorts.{sort-word, sort-atom, sort-parts}
 use Rattle.shapes.proofs.Seen.{list-within}

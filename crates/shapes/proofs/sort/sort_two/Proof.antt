@@ -1,5 +1,4 @@
 use mathlib.Core.Path.{sym, _∙_}
-use native.Mathlib.Omega.{arith}
 use Rattle.shapes.proofs.Sorts.{two-word, two-index, two-width, two-unnamed, two-other}
 use borrow.Author.Needs.{needs}
 use Rattle.shapes.proofs.sort.sort_two.Statement.{statement}

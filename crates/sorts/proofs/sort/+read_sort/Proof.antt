@@ -1,5 +1,3 @@
-use mathlib.Core.Path.{sym, _∙_}
-use native.Mathlib.Omega.{arith}
 use Rattle.tables.specs.Sort.{optionOf, setOf}
 use Rattle.sorts.proofs.Read.{sort-nested, sort-word, sort-width, sort-unknown, makes-option, makes-set, inner-refused, inner-row}
 use borrow.Author.Needs.{needs}

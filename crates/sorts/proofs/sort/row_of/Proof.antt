@@ -1,5 +1,3 @@
-use mathlib.Core.Path.{sym, _∙_}
-use native.Mathlib.Omega.{arith}
 use Rattle.sorts.proofs.Rows.{row-there, row-missing}
 use borrow.Author.Needs.{needs}
 use Rattle.sorts.proofs.sort.row_of.Statement.{statement}

@@ -1,4 +1,3 @@
-use mathlib.Core.Path.{sym, _∙_}
 use native.Mathlib.Omega.{arith}
 use Rattle.sorts.proofs.Rows.{width-over, width-zero, width-row}
 use borrow.Author.Needs.{needs}

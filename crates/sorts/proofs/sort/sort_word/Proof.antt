@@ -1,5 +1,4 @@
 use mathlib.Core.Path.{sym, _∙_}
-use native.Mathlib.Omega.{arith}
 use Rattle.sorts.proofs.Rows.{word-bool, word-string, word-decimal, word-datetime, word-duration, word-row, word-unknown}
 use borrow.Author.Needs.{needs}
 use Rattle.sorts.proofs.sort.sort_word.Statement.{statement}

@@ -1,4 +1,4 @@
-use mathlib.Core.Path.{_≡_, _∙_}
+use mathlib.Core.Path.{_∙_}
 use Rattle.tables_text.proofs.Cuts.{begins-is}
 use borrow.Author.Needs.{needs}
 use Rattle.tables_text.proofs.line.starts.Statement.{statement}

@@ -1,4 +1,4 @@
-use mathlib.Core.Path.{_≡_, sym, _∙_}
+use mathlib.Core.Path.{sym, _∙_}
 use Rattle.tables_text.proofs.Readings.{judged-passed, judged-refused}
 use borrow.Author.Needs.{needs}
 use Rattle.tables_text.proofs.read.read_rows.Statement.{statement}

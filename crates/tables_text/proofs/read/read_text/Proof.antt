@@ -1,4 +1,3 @@
-use native.Mathlib.Omega.{arith}
 use Rattle.tables_text.proofs.Readings.{text-unparsed, text-parsed, fits-1, fits-2, fits-3, fits-4, fits-5}
 use borrow.Author.Needs.{needs}
 use Rattle.tables_text.proofs.read.read_text.Statement.{statement}

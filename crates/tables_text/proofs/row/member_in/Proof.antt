@@ -1,6 +1,5 @@
-use mathlib.Core.Path.{_≡_, sym, _∙_}
+use mathlib.Core.Path.{sym, _∙_}
 use native.Mathlib.Omega.{arith}
-use Prim.Native.String.{String}
 use Rattle.ground.specs.Bytes.{bytes}
 use Rattle.tables_text.proofs.Rows.{keyed, unkeyed, member-unkeyed, member-uncut, member-other, member-row, member-within}
 use borrow.Author.Needs.{needs}

@@ -1,4 +1,3 @@
-use Prim.Native.String.{String}
 use Rattle.ground.specs.Bytes.{bytes}
 use Rattle.tables_text.proofs.Rows.{keyed, unkeyed, variable-unkeyed, variable-uncut, variable-other, variable-row}
 use borrow.Author.Needs.{needs}

@@ -1,4 +1,3 @@
-use Prim.Native.String.{String}
 use Rattle.ground.specs.Bytes.{bytes}
 use Rattle.tables_text.proofs.Cuts.{begins-long}
 use Rattle.tables_text.proofs.Forms.{yes, no, form-bits, form-option, form-set, form-named}

@@ -1,4 +1,3 @@
-use mathlib.Core.Path.{_≡_, refl, sym, ap, _∙_}
 use native.Mathlib.Omega.{arith}
 use Rattle.tables_text.proofs.SortWalks.{record-fits, record-other, record-row, record-count}
 use borrow.Author.Needs.{needs}

@@ -1,7 +1,4 @@
-use mathlib.Core.Path.{_≡_, refl, sym, ap, _∙_}
 use native.Mathlib.Omega.{arith}
-use Rattle.tables_text.specs.Parse.{lineFeed}
-use Rattle.tables_text.proofs.Cuts.{end-le}
 use Rattle.tables_text.proofs.SortWalks.{sorted-past, sorted-other, sorted-plain, sorted-starts, sorted-entity, sorted-fine, sorted-record}
 use borrow.Author.Needs.{needs}
 use Rattle.tables_text.proofs.sorts.sort_line.Statement.{statement}

@@ -1,5 +1,4 @@
-use Prim.Native.Nat.{ℕ, _-_}
-use native.Mathlib.Omega.{arith}
+use Prim.Native.Nat.{_-_}
 use Rattle.tables.specs.Rules.{rowLimit}
 use Rattle.tables_text.proofs.SortWalks.{Sorting, sorting-start, sorting-full, sorting-fine, sorting-stop, sorting-long, sorting-step}
 use borrow.Author.Needs.{needs}

@@ -1,5 +1,4 @@
 use Prim.Native.Nat.{_-_}
-use native.Mathlib.Omega.{arith}
 use lib.ListN.{length}
 use Rattle.lent.proofs.Copies.{Copying, copying-start, copying-within, copying-step, copying-end}
 use borrow.Author.Needs.{needs}

@@ -1,6 +1,5 @@
-use Prim.Native.Nat.{ℕ, _-_}
-use native.Mathlib.Omega.{arith}
-use mathlib.Core.Path.{_≡_, refl}
+use Prim.Native.Nat.{_-_}
+use mathlib.Core.Path.{refl}
 use Rattle.tables.specs.Rules.{rowLimit}
 use Rattle.tables_text.specs.Parse.{memberIn}
 use Rattle.tables_text.specs.Line.{memberLine}

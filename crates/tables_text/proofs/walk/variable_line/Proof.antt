@@ -1,14 +1,11 @@
-use mathlib.Core.Path.{_≡_, refl, sym, ap, _∙_}
-use native.Mathlib.Omega.{arith}
-use lib.ListN.{length}
-use lib.Seq.{sets, length-sets}
+use mathlib.Core.Path.{sym, ap, _∙_}
+use lib.Seq.{sets}
 use Prim.Native.Nat.{ℕ, _*_}
 use mathlib.Core.List.{List}
 use Rattle.tables.specs.Layout.{stride}
-use Rattle.tables_text.specs.Parse.{lineFeed, variableIn}
+use Rattle.tables_text.specs.Parse.{variableIn}
 use Rattle.tables_text.specs.Line.{variableLine}
 use Rattle.tables_text.specs.Words.{variableWords}
-use Rattle.tables_text.proofs.Cuts.{end-le}
 use Rattle.tables_text.proofs.Spelled.{variable-sound}
 use Rattle.tables_text.proofs.Walks.{told-no-variable, row-variable, lined-past, lined-other, lined-row}
 use borrow.Author.Needs.{needs}

@@ -1,5 +1,4 @@
 use Prim.Native.Nat.{_-_}
-use native.Mathlib.Omega.{arith}
 use lib.ListN.{length}
 use Rattle.tokens.proofs.Insides.{Inside, inside-start, inside-end, inside-passed, inside-last, inside-closed, inside-doubled}
 use borrow.Author.Needs.{needs}

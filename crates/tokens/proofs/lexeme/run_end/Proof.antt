@@ -1,5 +1,4 @@
 use Prim.Native.Nat.{_-_}
-use native.Mathlib.Omega.{arith}
 use lib.ListN.{length}
 use Rattle.tokens.proofs.Digits.{Running, running-start, running-ends, running-stops, running-goes}
 use borrow.Author.Needs.{needs}

@@ -1,6 +1,5 @@
 use Rattle.words.specs.Pair.{value}
 use Prim.Native.Nat.{_-_}
-use native.Mathlib.Omega.{arith}
 use Rattle.decimals.proofs.Puts.{Putting, putting-start, put-within}
 use Rattle.values.specs.Text.{hex}
 use Rattle.value_text.proofs.Digits.{hex-step, hex-end}

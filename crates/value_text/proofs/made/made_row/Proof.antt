@@ -1,5 +1,5 @@
 use Rattle.value_text.proofs.Mades.{made-nameless, made-entity, made-record}
-use mathlib.Core.Path.{refl, ap, _∙_}
+use mathlib.Core.Path.{ap}
 use Rattle.value_text.proofs.Mades.{nameless}
 use borrow.Author.Needs.{needs}
 use Rattle.value_text.proofs.made.made_row.Statement.{statement}

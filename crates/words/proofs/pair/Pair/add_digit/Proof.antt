@@ -1,10 +1,9 @@
 use native.Mathlib.Nat.{le-trans}
 use lib.Dec.{lit≤}
 use native.Mathlib.Omega.{arith}
-use mathlib.Core.Path.{_≡_, ap, _∙_, subst, sym}
+use mathlib.Core.Path.{ap, _∙_}
 use Prim.Native.Nat.{ℕ, _+_, _*_, _^_}
 use Rattle.words.specs.Pair.{grown}
-use Rattle.words.specs.declared.pair.Grown.{Grown}
 use Rattle.words.proofs.Carries.{lower-times, upper-times, first-fits, second-fits, third-fits, fourth-fits, digit-over, digit-fits}
 use borrow.Author.Needs.{needs}
 use Rattle.words.proofs.pair.Pair.add_digit.Statement.{statement}

@@ -1,5 +1,5 @@
-use Prim.Native.Nat.{ℕ, _^_}
-use mathlib.Core.Path.{_≡_, ap, sym, _∙_, subst}
+use Prim.Native.Nat.{ℕ}
+use mathlib.Core.Path.{ap, sym, _∙_}
 use native.Mathlib.Omega.{arith}
 use Rattle.words.specs.Pair.{value}
 use Rattle.words.specs.Extension.{extended}
