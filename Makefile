@@ -69,7 +69,8 @@ compare: oracle library
 	python3 oracle/compare.py $(SEED) $(COUNT)
 	python3 oracle/beside.py $(SEED) $(MODELS)
 
-# Times our library, the crate and a plain C reader on the same inputs, in one run, and writes docs/BENCH.md and docs/bench.svg.
+# Times our library, the crate and a plain C reader on the same inputs, in one run, and writes docs/BENCH.md and docs/bench.svg (on Arm
+# docs/BENCH-aarch64.md and docs/bench-aarch64.svg).
 # QUICK=1 for a short run that prints its tables and writes nothing. Needs the toolchain and what oracle/README.md installs.
 bench: library
 	$(MAKE) -C oracle bench

@@ -182,10 +182,10 @@ def verdict(results):
             f"{times:.2f} times. On document 01's sample and the single replies below, in their order: {single} times.")
 
 
-def document(results, machine):
+def document(results, machine, picture):
     first, last = results.growth[0], results.growth[-1]
     return TEMPLATE.read_text(encoding="utf-8").format(
-        verdict=verdict(results), rounds=results.rounds, sample=results.sample,
+        picture=picture, verdict=verdict(results), rounds=results.rounds, sample=results.sample,
         machine=table(["what", "which"], [list(row) for row in machine]),
         readings=readings(results), growth=growth(results), check=check(results), script=script(results),
         lookups=lookups(results), verdict_listed=verdict_listed(results), listings=listings(results), apart=apart(results),

@@ -1,11 +1,13 @@
 #!/usr/bin/env python3
-"""Runs the bench, writes docs/BENCH.md and docs/bench.svg from what it measured, and prints the tables.
+"""Runs the bench, writes docs/BENCH.md and docs/bench.svg from what it measured, and prints the tables; on another machine than
+x86-64 docs/BENCH-MACHINE.md and docs/bench-MACHINE.svg.
 
 Usage: run.py [quick]
 `quick` is a short run: it prints its tables and writes nothing, so that no rough number stands in docs/.
 Needs the program that `make -C oracle bench` builds; `make bench` does both.
 """
 
+import platform
 import subprocess
 import sys
 from pathlib import Path
@@ -44,11 +46,12 @@ def main():
         sys.exit(__doc__)
     quick = sys.argv[1:] == ["quick"]
     results = report.Results(measured(quick))
-    text = report.document(results, machine.kind())
+    suffix = "" if platform.machine() == "x86_64" else "-" + platform.machine()
+    text = report.document(results, machine.kind(), f"bench{suffix}.svg")
     print(text)
     if not quick:
-        (ROOT / "docs" / "BENCH.md").write_text(text, encoding="utf-8")
-        (ROOT / "docs" / "bench.svg").write_text(plot.drawing(results), encoding="utf-8")
+        (ROOT / "docs" / f"BENCH{suffix}.md").write_text(text, encoding="utf-8")
+        (ROOT / "docs" / f"bench{suffix}.svg").write_text(plot.drawing(results), encoding="utf-8")
 
 
 if __name__ == "__main__":
