@@ -9,7 +9,7 @@ test:
 list:
 	@mkdir -p target/list && cp "$(TABLES)" target/list/tables.txt
 	@rt check modellist > target/list/check.log 2>&1 || { cat target/list/check.log; exit 1; }
-	@reply="$(abspath $(REPLY))" && cd target/list && ../bin/modellist < "$$reply"
+	@reply="$(abspath $(REPLY))" && cd target/list && sh ../../tools/run.sh modellist < "$$reply"
 
 # What C and Rust link, target/staticlib/libstazzumpi.a, for this machine. Needs the toolchain, which compiles for x86-64 alone;
 # elsewhere tools/native.sh has the same module compiled for the machine. NATIVE=1 goes that way on x86-64 too.
