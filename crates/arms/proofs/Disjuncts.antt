@@ -17,7 +17,7 @@ use Rattle.sorts.specs.Result.{ok}
 use Rattle.sorts.specs.Sort.{levels}
 use Rattle.values.specs.Value.{vBool}
 use Rattle.literals.specs.Literal.{Lit, read}
-use Rattle.meaning.proofs.Results.{ok-same, went, passed, was-found}
+use Rattle.well_sorted.proofs.Results.{ok-same, went, passed, was-found}
 use Rattle.value_text.specs.Value.{Given}
 use Rattle.commands.specs.Command.{key}
 use Rattle.model.specs.Model.{armOf, Table, tableOf, push, readTests}

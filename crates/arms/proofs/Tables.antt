@@ -15,7 +15,7 @@ use Rattle.values.specs.HasSort.{HasSort, Loose}
 use Rattle.values.specs.Normal.{normal}
 use Rattle.values.specs.Text.{text}
 use Rattle.values.specs.Value.{Value}
-use Rattle.meaning.proofs.Results.{passed}
+use Rattle.well_sorted.proofs.Results.{passed}
 use Rattle.value_text.specs.Laid.{Lays}
 use Rattle.value_text.specs.Value.{WritesInside}
 use Rattle.value_text.proofs.Lays.{lays-then, lays-put}

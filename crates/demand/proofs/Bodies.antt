@@ -17,7 +17,7 @@ use Rattle.sorts.specs.Sort.{levels}
 use Rattle.values.specs.Normal.{normal}
 use Rattle.values.specs.Value.{Value, vBool}
 use Rattle.literals.specs.Literal.{Lit, read}
-use Rattle.meaning.proofs.Results.{ok-same, went, passed, was-found}
+use Rattle.well_sorted.proofs.Results.{ok-same, went, passed, was-found}
 use Rattle.commands.specs.Command.{Chain, default, arm, chain, tests, key}
 use Rattle.commands.proofs.Shapes.{TestView, t-left, t-right, key-view, tests-view, ite, chain-by}
 use Rattle.model.specs.Model.{Table, armOf, tableOf, push, readChain, readTests, bodyBy, readBody}

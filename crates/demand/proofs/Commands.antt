@@ -18,8 +18,8 @@ use Rattle.sorts.specs.Result.{Result, ok, _>>=_}
 use Rattle.sorts.specs.Sort.{levels}
 use Rattle.values.specs.Value.{Value}
 use Rattle.literals.specs.Literal.{Lit, read}
-use Rattle.meaning.specs.Octets.{Octets, OctetsAll}
-use Rattle.meaning.proofs.Results.{refuses, ok-same, went, passed, was-found}
+use Rattle.well_sorted.specs.Octets.{Octets, OctetsAll}
+use Rattle.well_sorted.proofs.Results.{refuses, ok-same, went, passed, was-found}
 use Rattle.commands.specs.Command.{Command, command}
 use Rattle.commands.proofs.Shapes.{CommandView, c-variable, c-function, c-misshapen, command-view}
 use Rattle.model.specs.Model.{Table, Definition, isVariable, isFunction, readBody, variableValue, functionTable, onRow, readCommand, readCommands, orElse, variableIn, functionIn, lastVariable, lastFunction}

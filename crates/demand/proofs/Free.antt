@@ -24,10 +24,10 @@ use Rattle.sorts.specs.Result.{ok}
 use Rattle.sorts.specs.Sort.{sortWord, sortOf, readSort}
 use Rattle.values.specs.Value.{Value, Values}
 use Rattle.literals.specs.Literal.{Lit, read}
-use Rattle.meaning.proofs.Results.{refuses, went, was-found}
-use Rattle.meaning.proofs.Finds.{IsNamed, named-is}
-use Rattle.meaning.proofs.Views.{extName, SortView, s-word, s-width, s-option, s-set, s-none, sort-view}
-use Rattle.meaning.proofs.Readings.{FieldReadings, f-nil, f-cons, Reading, r-bits, r-string, r-true, r-false, r-member, r-none, r-asSome, r-some, r-empty, r-singleton, r-union, r-extension, r-indexed, r-entity, r-record, reading}
+use Rattle.well_sorted.proofs.Results.{refuses, went, was-found}
+use Rattle.well_sorted.proofs.Finds.{IsNamed, named-is}
+use Rattle.well_sorted.proofs.Views.{extName, SortView, s-word, s-width, s-option, s-set, s-none, sort-view}
+use Rattle.well_sorted.proofs.Readings.{FieldReadings, f-nil, f-cons, Reading, r-bits, r-string, r-true, r-false, r-member, r-none, r-asSome, r-some, r-empty, r-singleton, r-union, r-extension, r-indexed, r-entity, r-record, reading}
 use Rattle.demand.specs.Mention.{sameName, indexes, mentions, mentionsAny}
 use Rattle.demand.specs.Premise.{namesSort, apart}
 

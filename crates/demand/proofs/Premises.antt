@@ -29,7 +29,7 @@ use Rattle.values.specs.Normal.{normal}
 use Rattle.values.specs.Text.{text}
 use Rattle.values.specs.Value.{Value, vBool, vString, vEntity}
 use Rattle.literals.specs.Literal.{read}
-use Rattle.meaning.specs.Octets.{Octets}
+use Rattle.well_sorted.specs.Octets.{Octets}
 use Rattle.commands.specs.Command.{command, chain, tests, key}
 use Rattle.model.specs.Model.{armOf, Table, tableOf, isVariable, isFunction, readBody, readChain, readTests, readCommands, readModel}
 use Rattle.model.specs.Listing.{settledTable}

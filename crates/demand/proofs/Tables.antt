@@ -17,9 +17,9 @@ use Rattle.sorts.specs.Result.{ok}
 use Rattle.sorts.specs.Sort.{levels}
 use Rattle.values.specs.HasSort.{HasSort, Loose}
 use Rattle.literals.specs.Literal.{Lit, read}
-use Rattle.meaning.specs.Octets.{Octets, OctetsAll}
-use Rattle.meaning.proofs.Results.{ok-same, went, passed, was-found}
-use Rattle.meaning.proofs.Fits.{read-fits}
+use Rattle.well_sorted.specs.Octets.{Octets, OctetsAll}
+use Rattle.well_sorted.proofs.Results.{ok-same, went, passed, was-found}
+use Rattle.well_sorted.proofs.Fits.{read-fits}
 use Rattle.commands.specs.Command.{Chain, default, arm, chain, tests, key}
 use Rattle.commands.proofs.Shapes.{TestView, t-left, t-right, key-view, tests-view, ite, chain-by}
 use Rattle.model.specs.Model.{Table, isBool, readChain, readTests, bodyBy, readBody}

@@ -14,8 +14,8 @@ use Rattle.sorts.specs.Result.{ok}
 use Rattle.values.specs.HasSort.{Loose}
 use Rattle.values.specs.Value.{Value}
 use Rattle.values.proofs.Normals.{normal-fits}
-use Rattle.meaning.specs.Octets.{Octets}
-use Rattle.meaning.proofs.Results.{refuses}
+use Rattle.well_sorted.specs.Octets.{Octets}
+use Rattle.well_sorted.proofs.Results.{refuses}
 use Rattle.model.specs.Model.{Table, Definition, readModel, lastVariable, lastFunction}
 use Rattle.model.specs.Listing.{settledTable, settled, listing}
 use Rattle.model.proofs.Settled.{settled-function}

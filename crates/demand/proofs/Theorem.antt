@@ -16,9 +16,9 @@ use Rattle.values.specs.Normal.{normal}
 use Rattle.values.specs.Value.{Value, vBool}
 use Rattle.values.proofs.Normals.{normal-fits}
 use Rattle.values.proofs.Tells.{tells}
-use Rattle.meaning.specs.Octets.{Octets, OctetsAll}
-use Rattle.meaning.proofs.Results.{refuses, passed}
-use Rattle.meaning.proofs.Sound.{sound-octets}
+use Rattle.well_sorted.specs.Octets.{Octets, OctetsAll}
+use Rattle.well_sorted.proofs.Results.{refuses, passed}
+use Rattle.well_sorted.proofs.Sound.{sound-octets}
 use Rattle.commands.specs.Command.{tests}
 use Rattle.model.specs.Model.{Table, Definition, bodyBy, readBody, readCommands, readModel, lastVariable, lastFunction}
 use Rattle.model.specs.Listing.{settledTable, settled}

@@ -16,7 +16,7 @@ use Rattle.arena.specs.Tree.{Tree}
 use Rattle.tables.specs.Layout.{Lent, tablesOf}
 use Rattle.tables.specs.Rules.{lawful}
 use Rattle.sorts.specs.Result.{Result, ok, refused}
-use Rattle.meaning.proofs.Sound.{sound-octets}
+use Rattle.well_sorted.proofs.Sound.{sound-octets}
 use Rattle.model.specs.Model.{Definition, readModel}
 use Rattle.model.specs.Listing.{settled, listing, need}
 use Rattle.demand.specs.Alike.{Alike}

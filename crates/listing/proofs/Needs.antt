@@ -27,8 +27,8 @@ use Rattle.sorts.specs.Result.{Result, ok, refused, found}
 use Rattle.sorts.specs.Sort.{readSort, levels}
 use Rattle.values.specs.Value.{Value}
 use Rattle.literals.specs.Literal.{read}
-use Rattle.meaning.proofs.Plain.{Plain, plain-then, plain-unless, plain-found, sort-plain, read-plain}
-use Rattle.meaning.proofs.Results.{refuses, ok-same, went}
+use Rattle.well_sorted.proofs.Plain.{Plain, plain-then, plain-unless, plain-found, sort-plain, read-plain}
+use Rattle.well_sorted.proofs.Results.{refuses, ok-same, went}
 use Rattle.commands.specs.Command.{Command, variable, function, misshapen, command, Chain, default, arm, chain, tests, key}
 use Rattle.model.specs.Model.{Table, Definition, isVariable, isFunction, orElse, isBool, variableIn, functionIn, lastVariable, lastFunction, readChain, readTests, bodyBy, variableValue, functionTable, onRow, readCommand, readCommands, readModel}
 use Rattle.model.specs.Listing.{variableLines, functionLines, variablesFrom, functionsFrom, variableCount, functionCount, listing, need}

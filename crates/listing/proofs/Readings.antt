@@ -15,9 +15,9 @@ use Rattle.sorts.specs.Sort.{levels}
 use Rattle.values.specs.Normal.{normal}
 use Rattle.values.specs.Value.{Value}
 use Rattle.literals.specs.Literal.{Lit, read}
-use Rattle.meaning.specs.Octets.{Octets}
-use Rattle.meaning.proofs.Fits.{read-fits}
-use Rattle.meaning.proofs.Results.{refuses, ok-same, went, passed}
+use Rattle.well_sorted.specs.Octets.{Octets}
+use Rattle.well_sorted.proofs.Fits.{read-fits}
+use Rattle.well_sorted.proofs.Results.{refuses, ok-same, went, passed}
 use Rattle.value_text.specs.Laid.{Lays}
 use Rattle.value_text.proofs.Lays.{lays-none}
 use Rattle.commands.specs.declared.command.CommandFound.{CommandFound}

@@ -35,7 +35,7 @@ use Rattle.shapes.specs.Shows.{Standing, PartsAt}
 use Rattle.sorts.specs.Result.{Result, ok, refused}
 use Rattle.values.specs.Value.{Value}
 use Rattle.literals.specs.Answer.{capped}
-use Rattle.meaning.proofs.Sound.{sound-octets}
+use Rattle.well_sorted.proofs.Sound.{sound-octets}
 use Rattle.value_text.specs.Laid.{Lays}
 use Rattle.value_text.specs.Wrote.{Wrote}
 use Rattle.value_text.proofs.Lays.{lays-then, lays-put, lays-as, wrote-front}

@@ -24,8 +24,8 @@ use Rattle.values.specs.Value.{Value, Values, vBool, vString, vExt, vBits, vNon
 use Rattle.values.specs.HasSort.{FieldSorts, Loose}
 use Rattle.literals.specs.Literal.{Lit, unsigned, numbered, entityLit, fieldsOf, sameCount, madeRow, appLit, read}
 use Rattle.literals.proofs.Unions.{held-set}
-use Rattle.meaning.proofs.Results.{refuses, ok-same, went, passed, was-found}
-use Rattle.meaning.proofs.Readings.{Reading, r-bits, r-string, r-true, r-false, r-member, reading}
+use Rattle.well_sorted.proofs.Results.{refuses, ok-same, went, passed, was-found}
+use Rattle.well_sorted.proofs.Readings.{Reading, r-bits, r-string, r-true, r-false, r-member, reading}
 use Rattle.value_text.specs.Value.{Listed, l-nil, l-cons}
 
 -- no set is any other value

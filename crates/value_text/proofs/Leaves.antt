@@ -48,7 +48,7 @@ use Rattle.values.specs.Text.{text, hex, hexText, hexWidth, mark}
 use Rattle.literals.specs.Literal.{Lit, unsigned, numbered, litOf, memberLit, atRow, wordLit}
 use Rattle.literals.proofs.Forms.{found-row, found-none}
 use Rattle.literals.proofs.Words.{member-place}
-use Rattle.meaning.proofs.Results.{refuses, ok-same, went}
+use Rattle.well_sorted.proofs.Results.{refuses, ok-same, went}
 use Rattle.value_text.specs.Leaf.{IndexedText, EntityText, MemberText, WordText}
 
 -- a text that has room is what the buffer holds

@@ -19,8 +19,8 @@ use Rattle.values.specs.Text.{text}
 use Rattle.values.specs.Normal.{normal}
 use Rattle.values.specs.HasSort.{HasSort, Loose}
 use Rattle.literals.specs.Literal.{Lit, read}
-use Rattle.meaning.proofs.Results.{refuses, ok-same, went}
-use Rattle.meaning.proofs.Readings.{Reading, r-true, r-false, r-member, reading}
+use Rattle.well_sorted.proofs.Results.{refuses, ok-same, went}
+use Rattle.well_sorted.proofs.Readings.{Reading, r-true, r-false, r-member, reading}
 use Rattle.value_text.specs.Leaf.{WordText}
 use Rattle.value_text.specs.Value.{Given, Writes, WritesValue, WritesApp}
 use Rattle.value_text.proofs.Apps.{writes-as, writes-plain}

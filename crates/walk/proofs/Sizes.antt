@@ -22,9 +22,9 @@ use Rattle.values.specs.Text.{text}
 use Rattle.values.specs.Value.{Value, vBool}
 use Rattle.values.proofs.Lengths.{length-true, length-false}
 use Rattle.literals.specs.Literal.{Lit, read}
-use Rattle.meaning.proofs.Finds.{at-within}
-use Rattle.meaning.proofs.Results.{refuses, ok-same, went, passed, was-found}
-use Rattle.meaning.proofs.Sizes.{roomBy, roomsBy, rooms-cons, read-short}
+use Rattle.well_sorted.proofs.Finds.{at-within}
+use Rattle.well_sorted.proofs.Results.{refuses, ok-same, went, passed, was-found}
+use Rattle.well_sorted.proofs.Sizes.{roomBy, roomsBy, rooms-cons, read-short}
 use Rattle.commands.specs.Command.{Command, Chain, default, arm, chain, tests, key, command}
 use Rattle.commands.proofs.Shapes.{define, CommandView, c-variable, c-function, c-misshapen, command-view, TestView, t-left, t-right, key-view, tests-view, ite, chain-by}
 use Rattle.model.specs.Model.{Arm, armOf, Table, push, Definition, readChain, readTests, bodyBy, readBody, variableValue, functionTable, onRow, readCommand}

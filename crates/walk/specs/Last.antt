@@ -12,7 +12,7 @@ use Rattle.tables.specs.Layout.{Lent, tablesOf}
 use Rattle.tables.specs.Rules.{rowLimit}
 use Rattle.shapes.specs.Shows.{Standing}
 use Rattle.sorts.specs.Result.{ok}
-use Rattle.meaning.specs.Octets.{Octets}
+use Rattle.well_sorted.specs.Octets.{Octets}
 use Rattle.commands.specs.Command.{command}
 use Rattle.model.specs.Model.{Definition, orElse, readCommand}
 use Rattle.walk.specs.Noted.{slot, size}

@@ -9,7 +9,7 @@ use Rattle.tables.specs.Layout.{Lent, tablesOf}
 use Rattle.tables.specs.Rules.{lawful}
 use Rattle.shapes.specs.Shows.{StandingAll}
 use Rattle.sorts.specs.Result.{Result, ok, refused}
-use Rattle.meaning.specs.Octets.{OctetsAll}
+use Rattle.well_sorted.specs.Octets.{OctetsAll}
 use Rattle.model.specs.Model.{Definition, readCommands}
 use Rattle.walk.specs.declared.walk.Walked.{Walked}
 use Rattle.walk.specs.Last.{slots, Kept}

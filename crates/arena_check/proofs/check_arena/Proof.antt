@@ -15,55 +15,24 @@ Inv-loop words text end from₀ at₀ from at = Walked words text end from at
 abbrev μ-loop : tie.MeasureT-loop
 μ-loop words text end from₀ at₀ from at = end - at
 
--- src/lib.rt:23:9
-after-requires : tie.Need-after-requires Inv-loop μ-loop
-after-requires c κs = search needs
-
--- src/lib.rt:25:9
 returns : tie.Need-returns Inv-loop μ-loop
 returns c = let a = c .before .before .before .before .args in no-root (a .words .now) (a .text .now) _ (c .before .after .ensures) (c .if1 .taken)
 
--- src/lib.rt:28:9
 returns-2 : tie.Need-returns-2 Inv-loop μ-loop
 returns-2 c = let a = c .before .before .before .before .before .args in too-many (a .words .now) (a .text .now) _ (c .before .before .after .ensures) (c .if2 .taken)
 
--- src/lib.rt:32:5
 loop-holds : tie.Need-loop-holds Inv-loop μ-loop
 loop-holds c = walked-start _ _ _
 
--- src/lib.rt:33:13
-check-node-requires : tie.Need-check-node-requires Inv-loop μ-loop
-check-node-requires c κs = search needs
-
--- src/lib.rt:34:22
-enum-known-taken : tie.Need-enum-known-taken Inv-loop μ-loop
-enum-known-taken c = search needs
-
--- src/lib.rt:35:37
-enum-told : tie.Need-enum-told Inv-loop μ-loop
-enum-told c = search needs
-
--- src/lib.rt:35:13
 returns-3 : tie.Need-returns-3 Inv-loop μ-loop
 returns-3 c = walked-wrong _ _ _ _ _ (c .before .before .before .before .loop .inv) (c .before .before .before .before .before .before .before .after .ensures) (c .before .before .before .loop-test .taken) (c .before .before .check-node .ensures .wrong (c .enum-told .given .1))
 
--- src/lib.rt:38:9
-add-at : tie.Need-add-at Inv-loop μ-loop
-add-at c = search needs
-
--- src/lib.rt:32:5
-loop-less : tie.Need-loop-less Inv-loop μ-loop
-loop-less c = search needs
-
--- src/lib.rt:32:5
 loop-again : tie.Need-loop-again Inv-loop μ-loop
 loop-again c = walked-next _ _ _ _ _ (c .before .before .before .before .before .loop .inv) (c .before .before .before .before .loop-test .taken) _ _ (c .before .before .before .check-node .ensures) (c .before .taken .given .1)
 
--- src/lib.rt:41:9
 returns-4 : tie.Need-returns-4 Inv-loop μ-loop
 returns-4 c = walked-long _ _ _ _ _ (c .before .before .loop .inv) (c .before .before .before .before .before .after .ensures) (c .before .loop-test .left) (c .if3 .taken)
 
--- src/lib.rt:20:1
 returns-5 : tie.Need-returns-5 Inv-loop μ-loop
 returns-5 c = walked-whole _ _ _ _ _ (c .before .before .loop .inv) (c .before .before .before .before .before .after .ensures) (c .before .loop-test .left) (c .before .before .before .before .if1 .left) (c .before .before .before .if2 .left) (c .if3 .left)
 
@@ -73,16 +42,16 @@ check-arena-spec =
     (tie.spec
     Inv-loop
     μ-loop
-    after-requires
+    (λ c κs. search needs)
     returns
     returns-2
     loop-holds
-    check-node-requires
-    enum-known-taken
-    enum-told
+    (λ c κs. search needs)
+    (λ c. search needs)
+    (λ c. search needs)
     returns-3
-    add-at
-    loop-less
+    (λ c. search needs)
+    (λ c. search needs)
     loop-again
     returns-4
     returns-5)

@@ -12,23 +12,18 @@ Inv-loop number count₀ rest₀ count rest = Counting number count rest
 abbrev μ-loop : tie.MeasureT-loop
 μ-loop number count₀ rest₀ count rest = rest
 
--- src/lib.rt:30:5
 loop-holds : tie.Need-loop-holds Inv-loop μ-loop
 loop-holds c = counting-start _ (search needs)
 
--- src/lib.rt:32:9
 add-count : tie.Need-add-count Inv-loop μ-loop
 add-count c = record { fits = omega (arith, counting-fits _ _ _ (c .before .loop .inv)) }
 
--- src/lib.rt:30:5
 loop-less : tie.Need-loop-less Inv-loop μ-loop
 loop-less c = omega arith
 
--- src/lib.rt:30:5
 loop-again : tie.Need-loop-again Inv-loop μ-loop
 loop-again c = counting-step _ _ _ (c .before .loop .inv) (c .loop-test .taken)
 
--- src/lib.rt:25:1
 returns : tie.Need-returns Inv-loop μ-loop
 returns c = counting-end _ _ _ (c .before .loop .inv) (c .loop-test .left)
 

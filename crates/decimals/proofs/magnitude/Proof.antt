@@ -5,31 +5,24 @@ use Rattle.decimals.proofs.magnitude.Tie as tie
 use Rattle.decimals.proofs.magnitude.Reads as reads
 use Rattle.decimals.proofs.magnitude.Lts as lts
 
--- src/lib.rt:18:26
 add-below : tie.Need-add-below
 add-below c = negative (c .before .args .number) (c .before .fits .number) (c .if1 .taken) .first
 
--- src/lib.rt:18:21
 sub-below : tie.Need-sub-below
 sub-below c = negative (c .before .args .number) (c .before .fits .number) (c .if1 .taken) .second
 
--- src/lib.rt:19:9
 cast-result : tie.Need-cast-result
 cast-result c = let m = negative (c .before .args .number) (c .before .fits .number) (c .if1 .taken) in (m .positive, record { fits = omega arith })
 
--- src/lib.rt:19:9
 add-result : tie.Need-add-result
 add-result c = let m = negative (c .before .args .number) (c .before .fits .number) (c .if1 .taken) in record { fits = omega arith }
 
--- src/lib.rt:21:9
 cast-result-2 : tie.Need-cast-result-2
 cast-result-2 c = let m = nonnegative (c .before .args .number) (c .before .fits .number) (c .if1 .left) in (m .positive, m .small)
 
--- src/lib.rt:14:1
 returns : tie.Need-returns
 returns c = negative (c .before .args .number) (c .before .fits .number) (c .if1 .taken) .one-more
 
--- src/lib.rt:14:1
 returns-2 : tie.Need-returns-2
 returns-2 c = nonnegative (c .before .args .number) (c .before .fits .number) (c .if1 .left) .same
 

@@ -13,39 +13,18 @@ Inv-loop number out₀ start end rest₀ at₀ out rest at = Putting lastDigits 
 abbrev μ-loop : tie.MeasureT-loop
 μ-loop number out₀ start end rest₀ at₀ out rest at = at - start
 
--- src/lib.rt:44:5
 loop-holds : tie.Need-loop-holds Inv-loop μ-loop
 loop-holds c = putting-start lastDigits _ _ _ _ (c .pre .0)
 
--- src/lib.rt:45:9
-sub-at : tie.Need-sub-at Inv-loop μ-loop
-sub-at c = search needs
-
--- src/lib.rt:46:20
-add-out : tie.Need-add-out Inv-loop μ-loop
-add-out c = search needs
-
--- src/lib.rt:46:19
-cast-out : tie.Need-cast-out Inv-loop μ-loop
-cast-out c = search needs
-
--- src/lib.rt:46:9
 slice-write-out : tie.Need-slice-write-out Inv-loop μ-loop
 slice-write-out c = put-within lastDigits _ _ _ _ _ _ _ (c .before .loop .inv) (c .before .before .pre .1) (c .loop-test .taken)
 
--- src/lib.rt:44:5
-loop-less : tie.Need-loop-less Inv-loop μ-loop
-loop-less c = search needs
-
--- src/lib.rt:44:5
 loop-again : tie.Need-loop-again Inv-loop μ-loop
 loop-again c = digit-step _ _ _ _ _ _ _ (c .before .loop .inv) (c .before .before .pre .1) (c .loop-test .taken)
 
--- src/lib.rt:38:1
 same-length : tie.Need-same-length Inv-loop μ-loop
 same-length c = c .before .loop .inv .long
 
--- src/lib.rt:38:1
 returns : tie.Need-returns Inv-loop μ-loop
 returns c = digits-end _ _ _ _ _ _ _ (c .before .loop .inv) (c .loop-test .left)
 
@@ -56,11 +35,11 @@ put-digits-spec =
     Inv-loop
     μ-loop
     loop-holds
-    sub-at
-    add-out
-    cast-out
+    (λ c. search needs)
+    (λ c. search needs)
+    (λ c. search needs)
     slice-write-out
-    loop-less
+    (λ c. search needs)
     loop-again
     same-length
     returns)

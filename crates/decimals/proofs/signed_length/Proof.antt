@@ -13,26 +13,15 @@ use Rattle.decimals.proofs.signed_length.Lts as lts
 use Rattle.decimals.proofs.digit_count.Reads as digit-count-reads
 use Rattle.decimals.proofs.magnitude.Reads as magnitude-reads
 
--- src/lib.rt:66:30
-magnitude-requires : tie.Need-magnitude-requires
-magnitude-requires c κs = search needs
-
--- src/lib.rt:66:9
-digit-count-requires : tie.Need-digit-count-requires
-digit-count-requires c κs = search needs
-
--- src/lib.rt:68:16
 add-result : tie.Need-add-result
 add-result c = record { fits = omega (arith, count-most (c .before .before .magnitude .result), c .before .digit-count .ensures) }
 
--- src/lib.rt:68:9
 returns : tie.Need-returns
 returns c = let e = signed-negative (c .before .before .before .args .number) (c .before .before .magnitude .result) (c .before .before .before .fits .number) (c .if1 .taken) (c .before .before .magnitude .ensures) in omega (arith, ap (λ (l : List ℕ). length l) e, length-decimal (c .before .before .magnitude .result), c .before .digit-count .ensures)
 
--- src/lib.rt:63:1
 returns-2 : tie.Need-returns-2
 returns-2 c = c .before .digit-count .ensures ∙ sym (length-decimal (c .before .before .magnitude .result)) ∙ ap (λ (l : List ℕ). length l) (signed-natural (c .before .before .before .args .number) (c .before .before .magnitude .result) (c .before .before .before .fits .number) (c .if1 .left) (c .before .before .magnitude .ensures))
 
 pub signed-length-spec : {M : Type 1} → statement M
 signed-length-spec =
-    tie.close (tie.spec magnitude-requires digit-count-requires add-result returns returns-2)
+    tie.close (tie.spec (λ c κs. search needs) (λ c κs. search needs) add-result returns returns-2)

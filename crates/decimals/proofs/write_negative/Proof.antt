@@ -10,42 +10,29 @@ use Rattle.decimals.proofs.write_negative.Lts as lts
 use Rattle.decimals.proofs.digit_count.Reads as digit-count-reads
 use Rattle.decimals.proofs.put_digits.Reads as put-digits-reads
 
--- src/lib.rt:66:16
-digit-count-requires : tie.Need-digit-count-requires
-digit-count-requires c κs = search needs
-
--- src/lib.rt:66:16
 add-need : tie.Need-add-need
 add-need c = record { fits = omega (arith, negative-fits (c .before .before .args .size) (c .digit-count .result) (c .before .before .args .out .now) (c .digit-count .ensures)) }
 
--- src/lib.rt:68:9
 returns : tie.Need-returns
-returns c = negative-short (c .before .before .before .args .size) (c .before .digit-count .result) (c .before .before .before .args .out .now) (c .before .digit-count .ensures) (c .if1 .taken)
+returns c = let a = c .before .before .before .args in negative-short (a .size) (c .before .digit-count .result) (a .out .now) (c .before .digit-count .ensures) (c .if1 .taken)
 
--- src/lib.rt:70:5
-slice-write-out : tie.Need-slice-write-out
-slice-write-out c = search needs
-
--- src/lib.rt:71:5
 put-digits-requires : tie.Need-put-digits-requires
 put-digits-requires c κs = (omega arith, simp length-set (omega arith))
 
--- src/lib.rt:63:1
 same-length : tie.Need-same-length
 same-length c = c .before .before .put-digits .kept .1 .0 ∙ simp length-set
 
--- src/lib.rt:63:1
 returns-2 : tie.Need-returns-2
-returns-2 c = negative-put (c .before .before .before .before .before .before .before .args .size) (c .before .before .before .before .before .digit-count .result) (c .before .before .before .before .before .before .before .args .out .now) (c .before .before .before .before .before .digit-count .ensures) _ (c .before .before .before .before .if1 .left) (c .before .before .put-digits .ensures)
+returns-2 c = let a = c .before .before .before .before .before .before .before .args in negative-put (a .size) (c .before .before .before .before .before .digit-count .result) (a .out .now) (c .before .before .before .before .before .digit-count .ensures) _ (c .before .before .before .before .if1 .left) (c .before .before .put-digits .ensures)
 
 pub write-negative-spec : {M : Type 1} → statement M
 write-negative-spec =
     tie.close
     (tie.spec
-    digit-count-requires
+    (λ c κs. search needs)
     add-need
     returns
-    slice-write-out
+    (λ c. search needs)
     put-digits-requires
     same-length
     returns-2)

@@ -4,11 +4,9 @@ use Rattle.moves.proofs.instead.Tie as tie
 use Rattle.moves.proofs.instead.Reads as reads
 use Rattle.moves.proofs.instead.Lts as lts
 
--- src/lib.rt:93:9
 returns : tie.Need-returns
 returns c = replacement-from _ _ _ (c .if1 .taken)
 
--- src/lib.rt:89:1
 returns-2 : tie.Need-returns-2
 returns-2 c = replacement-other _ _ _ (c .if1 .left)
 

@@ -16,9 +16,6 @@ returns c = ap (λ (e : Encoded). length (bytesOf e)) (encoded-one _ (c .if1 .ta
 returns-2 : tie.Need-returns-2
 returns-2 c = ap (λ (e : Encoded). length (bytesOf e)) (encoded-two _ (c .before .if1 .left) (c .if2 .taken))
 
-is-scalar-requires : tie.Need-is-scalar-requires
-is-scalar-requires c κs = search needs
-
 returns-3 : tie.Need-returns-3
 returns-3 c = ap (λ (e : Encoded). length (bytesOf e)) (encoded-none _ (sym (c .before .is-scalar .ensures) ∙ not-true _ (c .if3 .taken)))
 
@@ -30,4 +27,4 @@ returns-5 c = ap (λ (e : Encoded). length (bytesOf e)) (encoded-four _ (c .if4 
 
 pub encoded-length-spec : {M : Type 1} → statement M
 encoded-length-spec =
-    tie.close (tie.spec returns returns-2 is-scalar-requires returns-3 returns-4 returns-5)
+    tie.close (tie.spec returns returns-2 (λ c κs. search needs) returns-3 returns-4 returns-5)

@@ -17,9 +17,6 @@ abbrev μ-loop : tie.MeasureT-loop
 loop-holds : tie.Need-loop-holds Inv-loop μ-loop
 loop-holds c = passed-start _
 
-sequence-at-requires : tie.Need-sequence-at-requires Inv-loop μ-loop
-sequence-at-requires c κs = search needs
-
 returns : tie.Need-returns Inv-loop μ-loop
 returns c = passed-stuck _ _ _ (c .before .before .loop-test .taken) (c .before .sequence-at .ensures) (c .if1 .taken) (c .before .before .before .loop .inv)
 
@@ -42,7 +39,7 @@ is-utf8-spec =
     Inv-loop
     μ-loop
     loop-holds
-    sequence-at-requires
+    (λ c κs. search needs)
     returns
     add-i
     loop-less

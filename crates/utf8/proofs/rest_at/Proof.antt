@@ -19,23 +19,14 @@ Inv-loop s i first last tails j₀ left₀ j left = Tails s (startsWith (first t
 abbrev μ-loop : tie.MeasureT-loop
 μ-loop s i first last tails j₀ left₀ j left = left
 
-add-octet-at : tie.Need-add-octet-at Inv-loop μ-loop
-add-octet-at c = search needs
-
-octet-at-requires : tie.Need-octet-at-requires Inv-loop μ-loop
-octet-at-requires c κs = search needs
-
 returns : tie.Need-returns Inv-loop μ-loop
-returns c = row-stops (c .before .before .before .args .s .now) (c .before .before .before .args .first to c .before .before .before .args .last) (c .before .before .before .args .i) (c .before .before .before .args .tails) _ (sym (not-true _ (c .if1 .taken)) ∙ c .before .octet-at .ensures)
+returns c = let a = c .before .before .before .args in row-stops (a .s .now) (a .first to a .last) (a .i) (a .tails) _ (sym (not-true _ (c .if1 .taken)) ∙ c .before .octet-at .ensures)
 
 add-j : tie.Need-add-j Inv-loop μ-loop
-add-j c = omega (arith, there (c .before .before .before .args .first to c .before .before .before .args .last) [] (c .before .before .before .args .s .now) (c .before .before .before .args .i + 1) (sym (not-false _ (c .if1 .left)) ∙ c .before .octet-at .ensures))
+add-j c = let a = c .before .before .before .args in omega (arith, there (a .first to a .last) [] (a .s .now) (a .i + 1) (sym (not-false _ (c .if1 .left)) ∙ c .before .octet-at .ensures))
 
 loop-holds : tie.Need-loop-holds Inv-loop μ-loop
-loop-holds c = tails-start (c .before .before .before .args .s .now) (c .before .before .before .args .first to c .before .before .before .args .last) (c .before .before .before .args .i) (c .before .before .before .args .tails) (sym (not-false _ (c .if1 .left)) ∙ c .before .octet-at .ensures)
-
-octet-at-requires-2 : tie.Need-octet-at-requires-2 Inv-loop μ-loop
-octet-at-requires-2 c κs = search needs
+loop-holds c = let a = c .before .before .before .args in tails-start (a .s .now) (a .first to a .last) (a .i) (a .tails) (sym (not-false _ (c .if1 .left)) ∙ c .before .octet-at .ensures)
 
 returns-2 : tie.Need-returns-2 Inv-loop μ-loop
 returns-2 c = tails-stop _ _ _ _ (c .before .before .before .loop .inv) _ (omega arith) (sym (not-true _ (c .if2 .taken)) ∙ c .before .octet-at2 .ensures)
@@ -43,17 +34,8 @@ returns-2 c = tails-stop _ _ _ _ (c .before .before .before .loop .inv) _ (omega
 add-j-2 : tie.Need-add-j-2 Inv-loop μ-loop
 add-j-2 c = omega (arith, there tail [] (c .before .before .before .before .before .before .before .args .s .now) (c .before .before .before .loop .j) (sym (not-false _ (c .if2 .left)) ∙ c .before .octet-at2 .ensures))
 
-sub-left : tie.Need-sub-left Inv-loop μ-loop
-sub-left c = search needs
-
-loop-less : tie.Need-loop-less Inv-loop μ-loop
-loop-less c = search needs
-
 loop-again : tie.Need-loop-again Inv-loop μ-loop
 loop-again c = tails-step _ _ _ _ (c .before .before .before .loop .inv) (omega arith) (sym (not-false _ (c .if2 .left)) ∙ c .before .octet-at2 .ensures)
-
-add-result : tie.Need-add-result Inv-loop μ-loop
-add-result c = search needs
 
 returns-3 : tie.Need-returns-3 Inv-loop μ-loop
 returns-3 c = tails-end _ _ _ _ (c .before .loop .inv) _ (omega arith)
@@ -64,16 +46,16 @@ rest-at-spec =
     (tie.spec
     Inv-loop
     μ-loop
-    add-octet-at
-    octet-at-requires
+    (λ c. search needs)
+    (λ c κs. search needs)
     returns
     add-j
     loop-holds
-    octet-at-requires-2
+    (λ c κs. search needs)
     returns-2
     add-j-2
-    sub-left
-    loop-less
+    (λ c. search needs)
+    (λ c. search needs)
     loop-again
-    add-result
+    (λ c. search needs)
     returns-3)

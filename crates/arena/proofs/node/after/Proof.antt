@@ -8,71 +8,33 @@ use Rattle.arena.proofs.node.after.Reads as reads
 use Rattle.arena.proofs.node.after.Lts as lts
 use Rattle.arena.proofs.node.node_at.Reads as node-at-reads
 
--- src/node.rt:87:9
-node-at-requires : tie.Need-node-at-requires
-node-at-requires c κs = search needs
-
--- src/node.rt:93:14
-enum-told : tie.Need-enum-told
-enum-told c = search needs
-
--- src/node.rt:93:14
 add-result : tie.Need-add-result
 add-result c = record { fits = omega (arith, node-within _ _ (sym (c .before .before .node-at .ensures) ∙ c .enum-told .given .1) refl) }
 
--- src/node.rt:94:46
-enum-told-2 : tie.Need-enum-told-2
-enum-told-2 c = search needs
-
--- src/node.rt:94:46
 add-result-2 : tie.Need-add-result-2
 add-result-2 c = record { fits = omega (arith, node-within _ _ (sym (c .before .before .node-at .ensures) ∙ c .enum-told2 .given .1) refl) }
 
--- src/node.rt:98:14
-enum-told-3 : tie.Need-enum-told-3
-enum-told-3 c = search needs
-
--- src/node.rt:98:14
 add-result-3 : tie.Need-add-result-3
 add-result-3 c = record { fits = omega (arith, node-within _ _ (sym (c .before .before .node-at .ensures) ∙ c .enum-told3 .given .1) refl) }
 
--- src/node.rt:102:14
-enum-told-4 : tie.Need-enum-told-4
-enum-told-4 c = search needs
-
--- src/node.rt:102:14
 add-result-4 : tie.Need-add-result-4
 add-result-4 c = record { fits = omega (arith, node-within _ _ (sym (c .before .before .node-at .ensures) ∙ c .enum-told4 .given .1) refl) }
 
--- src/node.rt:103:34
-enum-known-node : tie.Need-enum-known-node
-enum-known-node c = search needs
-
--- src/node.rt:104:25
-enum-told-5 : tie.Need-enum-told-5
-enum-told-5 c = search needs
-
--- src/node.rt:84:1
 returns : tie.Need-returns
 returns c = after-of _ _ (sym (c .before .before .node-at .ensures) ∙ c .enum-told .given .1)
 
--- src/node.rt:84:1
 returns-2 : tie.Need-returns-2
 returns-2 c = after-of _ _ (sym (c .before .before .node-at .ensures) ∙ c .enum-told2 .given .1)
 
--- src/node.rt:84:1
 returns-3 : tie.Need-returns-3
 returns-3 c = after-of _ _ (sym (c .before .before .node-at .ensures) ∙ c .enum-told3 .given .1)
 
--- src/node.rt:84:1
 returns-4 : tie.Need-returns-4
 returns-4 c = after-of _ _ (sym (c .before .before .node-at .ensures) ∙ c .enum-told4 .given .1)
 
--- src/node.rt:84:1
 returns-5 : tie.Need-returns-5
 returns-5 c = after-of _ _ (sym (c .before .before .before .node-at .ensures) ∙ c .before .node .given .1)
 
--- src/node.rt:84:1
 returns-6 : tie.Need-returns-6
 returns-6 c = after-of _ _ (sym (c .before .before .node-at .ensures) ∙ c .enum-told5 .given .1)
 
@@ -80,17 +42,17 @@ pub after-spec : {M : Type 1} → statement M
 after-spec =
     tie.close
     (tie.spec
-    node-at-requires
-    enum-told
+    (λ c κs. search needs)
+    (λ c. search needs)
     add-result
-    enum-told-2
+    (λ c. search needs)
     add-result-2
-    enum-told-3
+    (λ c. search needs)
     add-result-3
-    enum-told-4
+    (λ c. search needs)
     add-result-4
-    enum-known-node
-    enum-told-5
+    (λ c. search needs)
+    (λ c. search needs)
     returns
     returns-2
     returns-3

@@ -4,11 +4,9 @@ use Rattle.arena.proofs.node.unused.Tie as tie
 use Rattle.arena.proofs.node.unused.Reads as reads
 use Rattle.arena.proofs.node.unused.Lts as lts
 
--- src/node.rt:22:9
 returns : tie.Need-returns
 returns c = unused-zero _ _ (c .if1 .taken)
 
--- src/node.rt:18:1
 returns-2 : tie.Need-returns-2
 returns-2 c = unused-other _ _ (c .if1 .left)
 

@@ -4,11 +4,9 @@ use Rattle.arena.proofs.text.alike.Tie as tie
 use Rattle.arena.proofs.text.alike.Reads as reads
 use Rattle.arena.proofs.text.alike.Lts as lts
 
--- src/text.rt:8:1
 returns : tie.Need-returns
 returns c = rw (c .if1 .taken) refl
 
--- src/text.rt:8:1
 returns-2 : tie.Need-returns-2
 returns-2 c = rw (c .if1 .left) refl
 

@@ -18,37 +18,14 @@ Inv-loop a b all₀ i₀ all i = (i ≤ length a) × (length a ≡ length b) × 
 abbrev μ-loop : tie.MeasureT-loop
 μ-loop a b all₀ i₀ all i = length a - i
 
--- src/text.rt:21:5
 loop-holds : tie.Need-loop-holds Inv-loop μ-loop
 loop-holds c = (omega arith, c .before .before .pre, refl)
 
--- src/text.rt:22:26
-shared-slice-read-alike : tie.Need-shared-slice-read-alike Inv-loop μ-loop
-shared-slice-read-alike c = search needs
-
--- src/text.rt:22:32
-shared-slice-read-alike-2 : tie.Need-shared-slice-read-alike-2 Inv-loop μ-loop
-shared-slice-read-alike-2 c = search needs
-
--- src/text.rt:22:9
-alike-requires : tie.Need-alike-requires Inv-loop μ-loop
-alike-requires c κs = search needs
-
--- src/text.rt:23:9
-add-i : tie.Need-add-i Inv-loop μ-loop
-add-i c = search needs
-
--- src/text.rt:21:5
-loop-less : tie.Need-loop-less Inv-loop μ-loop
-loop-less c = search needs
-
--- src/text.rt:21:5
 loop-again : tie.Need-loop-again Inv-loop μ-loop
-loop-again c = (omega (arith, c .before .before .before .loop-test .taken), c .before .before .before .before .loop .inv .1, c .before .before .before .before .loop .inv .2 ∙ same-onward (c .before .before .before .before .before .before .before .args .a .now) (c .before .before .before .before .before .before .before .args .b .now) (c .before .before .before .before .loop .i) (c .before .before .before .loop-test .taken) (omega (arith, c .before .before .before .loop-test .taken, c .before .before .before .before .loop .inv .1)) (c .before .before .before .before .loop .all) _ (c .alike .ensures))
+loop-again c = let a = c .before .before .before .before .before .before .before .args in (omega (arith, c .before .before .before .loop-test .taken), c .before .before .before .before .loop .inv .1, c .before .before .before .before .loop .inv .2 ∙ same-onward (a .a .now) (a .b .now) (c .before .before .before .before .loop .i) (c .before .before .before .loop-test .taken) (omega (arith, c .before .before .before .loop-test .taken, c .before .before .before .before .loop .inv .1)) (c .before .before .before .before .loop .all) _ (c .alike .ensures))
 
--- src/text.rt:15:1
 returns : tie.Need-returns Inv-loop μ-loop
-returns c = same-all (c .before .before .before .before .args .a .now) (c .before .before .before .before .args .b .now) (c .before .loop .i) (c .before .loop .all) (c .before .loop .inv .1) (omega (arith, c .before .loop .inv .0, c .loop-test .left)) (c .before .loop .inv .2)
+returns c = let a = c .before .before .before .before .args in same-all (a .a .now) (a .b .now) (c .before .loop .i) (c .before .loop .all) (c .before .loop .inv .1) (omega (arith, c .before .loop .inv .0, c .loop-test .left)) (c .before .loop .inv .2)
 
 pub all-alike-spec : {M : Type 1} → statement M
 all-alike-spec =
@@ -57,10 +34,10 @@ all-alike-spec =
     Inv-loop
     μ-loop
     loop-holds
-    shared-slice-read-alike
-    shared-slice-read-alike-2
-    alike-requires
-    add-i
-    loop-less
+    (λ c. search needs)
+    (λ c. search needs)
+    (λ c κs. search needs)
+    (λ c. search needs)
+    (λ c. search needs)
     loop-again
     returns)

@@ -7,47 +7,18 @@ use Rattle.arena_check.proofs.node.is_bit_vector.Reads as reads
 use Rattle.arena_check.proofs.node.is_bit_vector.Lts as lts
 use Rattle.words.proofs.pair.Pair.reaches.Reads as reaches-reads
 
--- src/node.rt:29:9
 returns : tie.Need-returns
 returns c = width-zero _ _ (c .if1 .taken)
 
--- src/node.rt:32:9
 returns-2 : tie.Need-returns-2
 returns-2 c = width-over _ _ (c .if2 .taken)
 
--- src/node.rt:34:23
-sub-reaches : tie.Need-sub-reaches
-sub-reaches c = search needs
-
--- src/node.rt:34:8
-reaches-requires : tie.Need-reaches-requires
-reaches-requires c κs = search needs
-
--- src/node.rt:36:18
-sub-reaches-2 : tie.Need-sub-reaches-2
-sub-reaches-2 c = search needs
-
--- src/node.rt:37:19
-sub-t8 : tie.Need-sub-t8
-sub-t8 c = search needs
-
--- src/node.rt:39:31
-sub-reaches-3 : tie.Need-sub-reaches-3
-sub-reaches-3 c = search needs
-
--- src/node.rt:39:12
-reaches-requires-2 : tie.Need-reaches-requires-2
-reaches-requires-2 c κs = search needs
-
--- src/node.rt:40:13
 returns-3 : tie.Need-returns-3
 returns-3 c = let a = c .before .before .before .before .before .before .before .before .args in vector-neither (a .width) (a .number .low) (a .number .high) (c .before .before .before .before .before .before .before .if1 .left) (c .before .before .before .before .before .before .if2 .left) (search needs) (search needs) (sym (c .before .before .before .before .before .reaches .ensures) ∙ c .before .before .before .before .if3 .taken) (sym (c .before .reaches2 .ensures) ∙ c .if4 .taken)
 
--- src/node.rt:25:1
 returns-4 : tie.Need-returns-4
 returns-4 c = let a = c .before .before .before .before .before .before .before .before .args in vector-negative (a .width) (a .number .low) (a .number .high) (c .before .before .before .before .before .before .before .if1 .left) (c .before .before .before .before .before .before .if2 .left) (search needs) (search needs) (sym (c .before .reaches2 .ensures) ∙ c .if4 .left)
 
--- src/node.rt:25:1
 returns-5 : tie.Need-returns-5
 returns-5 c = let a = c .before .before .before .before .args in vector-positive (a .width) (a .number .low) (a .number .high) (c .before .before .before .if1 .left) (c .before .before .if2 .left) (search needs) (search needs) (sym (c .before .reaches .ensures) ∙ c .if3 .left)
 
@@ -57,12 +28,12 @@ is-bit-vector-spec =
     (tie.spec
     returns
     returns-2
-    sub-reaches
-    reaches-requires
-    sub-reaches-2
-    sub-t8
-    sub-reaches-3
-    reaches-requires-2
+    (λ c. search needs)
+    (λ c κs. search needs)
+    (λ c. search needs)
+    (λ c. search needs)
+    (λ c. search needs)
+    (λ c κs. search needs)
     returns-3
     returns-4
     returns-5)

@@ -13,35 +13,18 @@ Inv-loop words from count end at₀ left₀ at left = Left count words from end 
 abbrev μ-loop : tie.MeasureT-loop
 μ-loop words from count end at₀ left₀ at left = left
 
--- src/node.rt:53:5
 loop-holds : tie.Need-loop-holds Inv-loop μ-loop
 loop-holds c = left-start _ _ _ _
 
--- src/node.rt:54:13
-after-requires : tie.Need-after-requires Inv-loop μ-loop
-after-requires c κs = search needs
-
--- src/node.rt:56:13
 returns : tie.Need-returns Inv-loop μ-loop
 returns c = left-back (c .before .before .before .loop .inv) (omega arith) _ (c .before .after .ensures) (c .if1 .taken)
 
--- src/node.rt:59:13
 returns-2 : tie.Need-returns-2 Inv-loop μ-loop
 returns-2 c = left-past (c .before .before .before .before .loop .inv) (omega arith) _ (c .before .before .after .ensures) (c .if2 .taken)
 
--- src/node.rt:62:9
-sub-left : tie.Need-sub-left Inv-loop μ-loop
-sub-left c = search needs
-
--- src/node.rt:53:5
-loop-less : tie.Need-loop-less Inv-loop μ-loop
-loop-less c = search needs
-
--- src/node.rt:53:5
 loop-again : tie.Need-loop-again Inv-loop μ-loop
 loop-again c = left-next (c .before .before .before .before .loop .inv) (omega arith) _ (c .before .before .after .ensures) (c .before .if1 .left) (c .if2 .left)
 
--- src/node.rt:48:1
 returns-3 : tie.Need-returns-3 Inv-loop μ-loop
 returns-3 c = left-end (c .before .loop .inv) (omega arith)
 
@@ -52,10 +35,10 @@ is-chain-spec =
     Inv-loop
     μ-loop
     loop-holds
-    after-requires
+    (λ c κs. search needs)
     returns
     returns-2
-    sub-left
-    loop-less
+    (λ c. search needs)
+    (λ c. search needs)
     loop-again
     returns-3)

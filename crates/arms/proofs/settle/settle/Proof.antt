@@ -7,39 +7,12 @@ use Rattle.arms.proofs.settle.settle.Lts as lts
 use Rattle.arms.proofs.settle.line_up.Reads as line-up-reads
 use Rattle.literals.proofs.plus.Reads as plus-reads
 
--- src/settle.rt:23:9
 returns : tie.Need-returns
 returns c = settles-behind _ _ _ (c .if1 .taken) _ _
 
--- src/settle.rt:26:9
 returns-2 : tie.Need-returns-2
 returns-2 c = settles-past _ _ _ (c .if2 .taken) _ _
 
--- src/settle.rt:28:25
-part-line-up-start : tie.Need-part-line-up-start
-part-line-up-start c = search needs
-
--- src/settle.rt:28:25
-part-line-up-end : tie.Need-part-line-up-end
-part-line-up-end c = search needs
-
--- src/settle.rt:28:9
-line-up-requires : tie.Need-line-up-requires
-line-up-requires c κs = search needs
-
--- src/settle.rt:29:5
-plus-requires : tie.Need-plus-requires
-plus-requires c κs = search needs
-
--- src/settle.rt:19:1
-same-length : tie.Need-same-length
-same-length c = search needs
-
--- src/settle.rt:19:1
-same-length-2 : tie.Need-same-length-2
-same-length-2 c = search needs
-
--- src/settle.rt:19:1
 returns-3 : tie.Need-returns-3
 returns-3 c = settles-lines _ _ _ (c .before .before .before .before .before .before .before .before .before .if1 .left) (c .before .before .before .before .before .before .before .before .if2 .left) (c .before .before .before .before .before .before .before .before .before .before .before .before .good .1 .0 .0) _ _ _ (c .before .before .before .before .before .line-up .kept .0) (c .before .before .before .before .before .line-up .ensures) (c .plus .ensures)
 
@@ -49,10 +22,10 @@ settle-spec =
     (tie.spec
     returns
     returns-2
-    part-line-up-start
-    part-line-up-end
-    line-up-requires
-    plus-requires
-    same-length
-    same-length-2
+    (λ c. search needs)
+    (λ c. search needs)
+    (λ c κs. search needs)
+    (λ c κs. search needs)
+    (λ c. search needs)
+    (λ c. search needs)
     returns-3)

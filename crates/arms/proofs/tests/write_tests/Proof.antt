@@ -19,41 +19,20 @@ abbrev μ-loop : tie.MeasureT-loop
 μ-loop sorts members names nodes text offset length first count scratch₀ out₀ place at₀ to₀ i₀ scratch out at to i =
     count - i
 
--- src/tests.rt:26:5
 loop-holds : tie.Need-loop-holds Inv-loop μ-loop
-loop-holds c = (omega arith, refl, refl, tests-start (c .before .before .before .before .before .before .before .args .sorts .now) (c .before .before .before .before .before .before .before .args .members .now) (c .before .before .before .before .before .before .before .args .names .now) (c .before .before .before .before .before .before .before .args .nodes .now) (c .before .before .before .before .before .before .before .args .text .now) (c .before .before .before .before .before .before .before .args .offset) (c .before .before .before .before .before .before .before .args .length) (c .before .before .before .before .before .before .before .args .first) (c .before .before .before .before .before .before .before .args .count) (c .before .before .before .before .before .before .before .args .out .now) (c .before .before .before .before .before .before .before .args .place))
+loop-holds c = let a = c .before .before .before .before .before .before .before .args in (omega arith, refl, refl, tests-start (a .sorts .now) (a .members .now) (a .names .now) (a .nodes .now) (a .text .now) (a .offset) (a .length) (a .first) (a .count) (a .out .now) (a .place))
 
--- src/tests.rt:27:9
-write-test-requires : tie.Need-write-test-requires Inv-loop μ-loop
-write-test-requires c κs = search needs
-
--- src/tests.rt:40:9
-after-requires : tie.Need-after-requires Inv-loop μ-loop
-after-requires c κs = search needs
-
--- src/tests.rt:41:9
-add-i : tie.Need-add-i Inv-loop μ-loop
-add-i c = search needs
-
--- src/tests.rt:26:5
-loop-less : tie.Need-loop-less Inv-loop μ-loop
-loop-less c = search needs
-
--- src/tests.rt:26:5
 loop-again : tie.Need-loop-again Inv-loop μ-loop
-loop-again c = (omega arith, c .before .before .before .before .before .write-test .kept .1 .1 .1 .1 .1 .1 .1 .1 .0 ∙ c .before .before .before .before .before .before .before .before .before .loop .inv .1, c .before .before .before .before .before .write-test .kept .1 .1 .1 .1 .1 .1 .1 .1 .1 .0 ∙ c .before .before .before .before .before .before .before .before .before .loop .inv .2, tests-next (c .before .before .before .before .before .before .before .before .before .before .before .before .before .before .before .before .before .args .sorts .now) (c .before .before .before .before .before .before .before .before .before .before .before .before .before .before .before .before .before .args .members .now) (c .before .before .before .before .before .before .before .before .before .before .before .before .before .before .before .before .before .args .names .now) (c .before .before .before .before .before .before .before .before .before .before .before .before .before .before .before .before .before .args .nodes .now) (c .before .before .before .before .before .before .before .before .before .before .before .before .before .before .before .before .before .args .text .now) (c .before .before .before .before .before .before .before .before .before .before .before .before .before .before .before .before .before .args .offset) (c .before .before .before .before .before .before .before .before .before .before .before .before .before .before .before .before .before .args .length) (c .before .before .before .before .before .before .before .before .before .before .before .before .before .before .before .before .before .args .first) (c .before .before .before .before .before .before .before .before .before .before .before .before .before .before .before .before .before .args .count) (c .before .before .before .before .before .before .before .before .before .before .before .before .before .before .before .before .before .args .out .now) (c .before .before .before .before .before .before .before .before .before .before .before .before .before .before .before .before .before .args .place) _ _ _ _ (c .before .before .before .before .before .before .before .before .before .loop .inv .3) (c .before .before .before .before .before .before .before .before .loop-test .taken) _ _ (c .before .before .before .before .before .write-test .ensures) _ (c .after .ensures))
+loop-again c = let a = c .before .before .before .before .before .before .before .before .before .before .before .before .before .before .before .before .before .args in (omega arith, c .before .before .before .before .before .write-test .kept .1 .1 .1 .1 .1 .1 .1 .1 .0 ∙ c .before .before .before .before .before .before .before .before .before .loop .inv .1, c .before .before .before .before .before .write-test .kept .1 .1 .1 .1 .1 .1 .1 .1 .1 .0 ∙ c .before .before .before .before .before .before .before .before .before .loop .inv .2, tests-next (a .sorts .now) (a .members .now) (a .names .now) (a .nodes .now) (a .text .now) (a .offset) (a .length) (a .first) (a .count) (a .out .now) (a .place) _ _ _ _ (c .before .before .before .before .before .before .before .before .before .loop .inv .3) (c .before .before .before .before .before .before .before .before .loop-test .taken) _ _ (c .before .before .before .before .before .write-test .ensures) _ (c .after .ensures))
 
--- src/tests.rt:7:1
 same-length : tie.Need-same-length Inv-loop μ-loop
 same-length c = c .before .loop .inv .1
 
--- src/tests.rt:7:1
 same-length-2 : tie.Need-same-length-2 Inv-loop μ-loop
 same-length-2 c = c .before .loop .inv .2
 
--- src/tests.rt:7:1
 returns : tie.Need-returns Inv-loop μ-loop
-returns c = tests-end (c .before .before .before .before .before .before .before .before .before .args .sorts .now) (c .before .before .before .before .before .before .before .before .before .args .members .now) (c .before .before .before .before .before .before .before .before .before .args .names .now) (c .before .before .before .before .before .before .before .before .before .args .nodes .now) (c .before .before .before .before .before .before .before .before .before .args .text .now) (c .before .before .before .before .before .before .before .before .before .args .offset) (c .before .before .before .before .before .before .before .before .before .args .length) (c .before .before .before .before .before .before .before .before .before .args .first) (c .before .before .before .before .before .before .before .before .before .args .count) (c .before .before .before .before .before .before .before .before .before .args .out .now) (c .before .before .before .before .before .before .before .before .before .args .place) _ _ _ _ (c .before .loop .inv .3) (c .loop-test .left)
+returns c = let a = c .before .before .before .before .before .before .before .before .before .args in tests-end (a .sorts .now) (a .members .now) (a .names .now) (a .nodes .now) (a .text .now) (a .offset) (a .length) (a .first) (a .count) (a .out .now) (a .place) _ _ _ _ (c .before .loop .inv .3) (c .loop-test .left)
 
 pub write-tests-spec : {M : Type 1} → statement M
 write-tests-spec =
@@ -62,10 +41,10 @@ write-tests-spec =
     Inv-loop
     μ-loop
     loop-holds
-    write-test-requires
-    after-requires
-    add-i
-    loop-less
+    (λ c κs. search needs)
+    (λ c κs. search needs)
+    (λ c. search needs)
+    (λ c. search needs)
     loop-again
     same-length
     same-length-2

@@ -17,35 +17,12 @@ Inv-loop stack₀ count at₀ stack at = (at ≤ count) × (stack ≡ replicate 
 abbrev μ-loop : tie.MeasureT-loop
 μ-loop stack₀ count at₀ stack at = count - at
 
--- src/nodes.rt:86:5
 loop-holds : tie.Need-loop-holds Inv-loop μ-loop
 loop-holds c = (omega arith, refl, refl)
 
--- src/nodes.rt:87:9
-mul-stack : tie.Need-mul-stack Inv-loop μ-loop
-mul-stack c = search needs
-
--- src/nodes.rt:87:9
-slice-write-stack : tie.Need-slice-write-stack Inv-loop μ-loop
-slice-write-stack c = search needs
-
--- src/nodes.rt:88:9
-add-at : tie.Need-add-at Inv-loop μ-loop
-add-at c = search needs
-
--- src/nodes.rt:86:5
-loop-less : tie.Need-loop-less Inv-loop μ-loop
-loop-less c = search needs
-
--- src/nodes.rt:86:5
 loop-again : tie.Need-loop-again Inv-loop μ-loop
 loop-again c = (omega arith, rw (c .before .loop .inv .1) (fill-more (c .before .loop .at) 0 (c .before .before .args .stack .now) (omega arith)), rw length-set (c .before .loop .inv .2))
 
--- src/nodes.rt:81:1
-same-length : tie.Need-same-length Inv-loop μ-loop
-same-length c = search needs
-
--- src/nodes.rt:81:1
 returns : tie.Need-returns Inv-loop μ-loop
 returns c = let e = le-antisymm (c .before .loop .inv .0) (c .loop-test .left) in rw (← e) (c .before .loop .inv .1)
 
@@ -56,10 +33,10 @@ clear-spec =
     Inv-loop
     μ-loop
     loop-holds
-    mul-stack
-    slice-write-stack
-    add-at
-    loop-less
+    (λ c. search needs)
+    (λ c. search needs)
+    (λ c. search needs)
+    (λ c. search needs)
     loop-again
-    same-length
+    (λ c. search needs)
     returns)

@@ -6,11 +6,8 @@ use borrow.Author.Needs.{needs}
 use Rattle.lexicon.proofs.class.class_of.Statement.{statement}
 use Rattle.lexicon.proofs.class.class_of.Tie as tie
 
-element-copy-out-result : tie.Need-element-copy-out-result
-element-copy-out-result c = search needs
-
 returns : tie.Need-returns
 returns c = entry-at (c .before .args .table .now) (c .before .args .byte) (c .before .pre) (omega arith)
 
 pub class-of-spec : {M : Type 1} → statement M
-class-of-spec = tie.close (tie.spec element-copy-out-result returns)
+class-of-spec = tie.close (tie.spec (λ c. search needs) returns)

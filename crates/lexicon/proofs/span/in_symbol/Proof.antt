@@ -5,9 +5,6 @@ use borrow.Author.Needs.{needs}
 use Rattle.lexicon.proofs.span.in_symbol.Statement.{statement}
 use Rattle.lexicon.proofs.span.in_symbol.Tie as tie
 
-class-of-requires : tie.Need-class-of-requires
-class-of-requires c κs = search needs
-
 returns : tie.Need-returns
 returns c = in-symbol-other _ _ (c .before .class-of .ensures) (c .if1 .taken)
 
@@ -15,4 +12,4 @@ returns-2 : tie.Need-returns-2
 returns-2 c = in-symbol-digit _ _ (c .before .class-of .ensures) (c .if1 .left)
 
 pub in-symbol-spec : {M : Type 1} → statement M
-in-symbol-spec = tie.close (tie.spec class-of-requires returns returns-2)
+in-symbol-spec = tie.close (tie.spec (λ c κs. search needs) returns returns-2)

@@ -19,20 +19,8 @@ abbrev μ-loop : tie.MeasureT-loop
 loop-holds : tie.Need-loop-holds Inv-loop μ-loop
 loop-holds c = refl
 
-shared-slice-read-in-symbol : tie.Need-shared-slice-read-in-symbol Inv-loop μ-loop
-shared-slice-read-in-symbol c = search needs
-
-in-symbol-requires : tie.Need-in-symbol-requires Inv-loop μ-loop
-in-symbol-requires c κs = search needs
-
 returns : tie.Need-returns Inv-loop μ-loop
 returns c = span-stops inSymbol _ _ _ (c .before .before .before .before .loop .inv) (c .before .before .before .loop-test .taken) (sym (c .before .in-symbol .ensures) ∙ not-true _ (c .if1 .taken))
-
-add-at : tie.Need-add-at Inv-loop μ-loop
-add-at c = search needs
-
-loop-less : tie.Need-loop-less Inv-loop μ-loop
-loop-less c = search needs
 
 loop-again : tie.Need-loop-again Inv-loop μ-loop
 loop-again c = span-goes inSymbol _ _ _ (c .before .before .before .before .loop .inv) (c .before .before .before .loop-test .taken) (sym (c .before .in-symbol .ensures) ∙ not-false _ (c .if1 .left))
@@ -47,10 +35,10 @@ span-end-spec =
     Inv-loop
     μ-loop
     loop-holds
-    shared-slice-read-in-symbol
-    in-symbol-requires
+    (λ c. search needs)
+    (λ c κs. search needs)
     returns
-    add-at
-    loop-less
+    (λ c. search needs)
+    (λ c. search needs)
     loop-again
     returns-2)

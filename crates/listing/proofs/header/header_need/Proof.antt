@@ -7,27 +7,16 @@ use Rattle.listing.proofs.header.header_need.Reads as reads
 use Rattle.listing.proofs.header.header_need.Lts as lts
 use Rattle.decimals.proofs.digit_count.Reads as digit-count-reads
 
--- src/header.rt:15:5
-digit-count-requires : tie.Need-digit-count-requires
-digit-count-requires c κs = search needs
-
--- src/header.rt:15:37
-digit-count-requires-2 : tie.Need-digit-count-requires-2
-digit-count-requires-2 c κs = search needs
-
--- src/header.rt:15:5
 add-result : tie.Need-add-result
 add-result c = record { fits = omega (arith, header-sum (c .before .before .args .variables) (c .before .before .args .functions) _ _ (c .before .digit-count .ensures) (c .digit-count2 .ensures)) }
 
--- src/header.rt:15:5
 add-result-2 : tie.Need-add-result-2
 add-result-2 c = record { fits = omega (arith, header-sum (c .before .before .args .variables) (c .before .before .args .functions) _ _ (c .before .digit-count .ensures) (c .digit-count2 .ensures)) }
 
--- src/header.rt:12:1
 returns : tie.Need-returns
 returns c = header-need (c .before .before .args .variables) (c .before .before .args .functions) _ _ (c .before .digit-count .ensures) (c .digit-count2 .ensures)
 
 pub header-need-spec : {M : Type 1} → statement M
 header-need-spec =
     tie.close
-    (tie.spec digit-count-requires digit-count-requires-2 add-result add-result-2 returns)
+    (tie.spec (λ c κs. search needs) (λ c κs. search needs) add-result add-result-2 returns)

@@ -9,72 +9,23 @@ use Rattle.literals.proofs.plus.Reads as plus-reads
 use Rattle.tables.proofs.clamp.Reads as clamp-reads
 use Rattle.tables.proofs.word.Reads as word-reads
 
--- src/tally.rt:50:23
-word-requires : tie.Need-word-requires
-word-requires c κs = search needs
-
--- src/tally.rt:50:48
-word-requires-2 : tie.Need-word-requires-2
-word-requires-2 c κs = search needs
-
--- src/tally.rt:50:9
-clamp-requires : tie.Need-clamp-requires
-clamp-requires c κs = search needs
-
--- src/tally.rt:51:16
-sub-name : tie.Need-sub-name
-sub-name c = search needs
-
--- src/tally.rt:52:32
-word-requires-3 : tie.Need-word-requires-3
-word-requires-3 c κs = search needs
-
--- src/tally.rt:52:9
-digit-count-requires : tie.Need-digit-count-requires
-digit-count-requires c κs = search needs
-
--- src/tally.rt:53:30
-word-requires-4 : tie.Need-word-requires-4
-word-requires-4 c κs = search needs
-
--- src/tally.rt:53:9
-digit-count-requires-2 : tie.Need-digit-count-requires-2
-digit-count-requires-2 c κs = search needs
-
--- src/tally.rt:54:20
-plus-requires : tie.Need-plus-requires
-plus-requires c κs = search needs
-
--- src/tally.rt:54:15
-plus-requires-2 : tie.Need-plus-requires-2
-plus-requires-2 c κs = search needs
-
--- src/tally.rt:54:10
-plus-requires-3 : tie.Need-plus-requires-3
-plus-requires-3 c κs = search needs
-
--- src/tally.rt:54:5
-plus-requires-4 : tie.Need-plus-requires-4
-plus-requires-4 c κs = search needs
-
--- src/tally.rt:47:1
 returns : tie.Need-returns
-returns c = function-sum (c .before .before .before .before .before .before .before .before .before .before .before .before .before .before .args .names .now) (c .before .before .before .before .before .before .before .before .before .before .before .before .before .before .args .functions .now) (c .before .before .before .before .before .before .before .before .before .before .before .before .before .before .args .row) (c .before .before .before .before .before .before .before .before .before .before .before .before .before .before .args .long) _ _ (c .before .before .before .before .before .before .before .before .before .clamp .result) (c .before .before .before .before .before .before .before .before .before .before .before .word .ensures) (c .before .before .before .before .before .before .before .before .before .before .word2 .ensures) (c .before .before .before .before .before .before .before .before .before .clamp .ensures) _ _ _ _ _ _ _ _ (c .before .before .before .before .before .before .before .word3 .ensures) (c .before .before .before .before .before .before .digit-count .ensures) (c .before .before .before .before .before .word4 .ensures) (c .before .before .before .before .digit-count2 .ensures) (c .before .before .before .plus .ensures) (c .before .before .plus2 .ensures) (c .before .plus3 .ensures) (c .plus4 .ensures)
+returns c = let a = c .before .before .before .before .before .before .before .before .before .before .before .before .before .before .args in function-sum (a .names .now) (a .functions .now) (a .row) (a .long) _ _ (c .before .before .before .before .before .before .before .before .before .clamp .result) (c .before .before .before .before .before .before .before .before .before .before .before .word .ensures) (c .before .before .before .before .before .before .before .before .before .before .word2 .ensures) (c .before .before .before .before .before .before .before .before .before .clamp .ensures) _ _ _ _ _ _ _ _ (c .before .before .before .before .before .before .before .word3 .ensures) (c .before .before .before .before .before .before .digit-count .ensures) (c .before .before .before .before .before .word4 .ensures) (c .before .before .before .before .digit-count2 .ensures) (c .before .before .before .plus .ensures) (c .before .before .plus2 .ensures) (c .before .plus3 .ensures) (c .plus4 .ensures)
 
 pub function-need-spec : {M : Type 1} → statement M
 function-need-spec =
     tie.close
     (tie.spec
-    word-requires
-    word-requires-2
-    clamp-requires
-    sub-name
-    word-requires-3
-    digit-count-requires
-    word-requires-4
-    digit-count-requires-2
-    plus-requires
-    plus-requires-2
-    plus-requires-3
-    plus-requires-4
+    (λ c κs. search needs)
+    (λ c κs. search needs)
+    (λ c κs. search needs)
+    (λ c. search needs)
+    (λ c κs. search needs)
+    (λ c κs. search needs)
+    (λ c κs. search needs)
+    (λ c κs. search needs)
+    (λ c κs. search needs)
+    (λ c κs. search needs)
+    (λ c κs. search needs)
+    (λ c κs. search needs)
     returns)

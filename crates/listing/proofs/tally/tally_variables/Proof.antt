@@ -17,59 +17,15 @@ Inv-loop variables names last rows tally₀ i₀ tally i = VariablesSofar variab
 abbrev μ-loop : tie.MeasureT-loop
 μ-loop variables names last rows tally₀ i₀ tally i = rows - i
 
--- src/tally.rt:60:9
-count-requires : tie.Need-count-requires Inv-loop μ-loop
-count-requires c κs = search needs
-
--- src/tally.rt:63:5
 loop-holds : tie.Need-loop-holds Inv-loop μ-loop
-loop-holds c = variables-start (c .before .before .before .before .args .variables .now) (c .before .before .before .before .args .names .now) (c .before .before .before .before .args .last .now) _ (c .count .ensures)
+loop-holds c = let a = c .before .before .before .before .args in variables-start (a .variables .now) (a .names .now) (a .last .now) _ (c .count .ensures)
 
--- src/tally.rt:64:20
 mul-slot : tie.Need-mul-slot Inv-loop μ-loop
 mul-slot c = let h = c .before .loop .inv .there in record { fits = omega (arith, h, c .loop-test .taken) }
 
--- src/tally.rt:65:32
-mul-noted : tie.Need-mul-noted Inv-loop μ-loop
-mul-noted c = search needs
-
--- src/tally.rt:65:13
-noted-requires : tie.Need-noted-requires Inv-loop μ-loop
-noted-requires c κs = search needs
-
--- src/tally.rt:66:32
-mul-noted-2 : tie.Need-mul-noted-2 Inv-loop μ-loop
-mul-noted-2 c = search needs
-
--- src/tally.rt:66:32
-add-noted : tie.Need-add-noted Inv-loop μ-loop
-add-noted c = search needs
-
--- src/tally.rt:66:13
-noted-requires-2 : tie.Need-noted-requires-2 Inv-loop μ-loop
-noted-requires-2 c κs = search needs
-
--- src/tally.rt:67:13
-variable-need-requires : tie.Need-variable-need-requires Inv-loop μ-loop
-variable-need-requires c κs = search needs
-
--- src/tally.rt:68:9
-added-requires : tie.Need-added-requires Inv-loop μ-loop
-added-requires c κs = search needs
-
--- src/tally.rt:69:9
-add-i : tie.Need-add-i Inv-loop μ-loop
-add-i c = search needs
-
--- src/tally.rt:63:5
-loop-less : tie.Need-loop-less Inv-loop μ-loop
-loop-less c = search needs
-
--- src/tally.rt:63:5
 loop-again : tie.Need-loop-again Inv-loop μ-loop
 loop-again c = variables-step _ _ _ _ _ _ (c .before .before .before .before .before .loop .inv) _ _ _ (c .before .before .before .before .loop-test .taken) (c .before .before .before .noted .ensures) (c .before .before .noted2 .ensures) (c .before .variable-need .ensures) _ (c .added .ensures)
 
--- src/tally.rt:57:1
 returns : tie.Need-returns Inv-loop μ-loop
 returns c = variables-end _ _ _ _ _ _ (c .before .loop .inv) (c .loop-test .left)
 
@@ -79,17 +35,17 @@ tally-variables-spec =
     (tie.spec
     Inv-loop
     μ-loop
-    count-requires
+    (λ c κs. search needs)
     loop-holds
     mul-slot
-    mul-noted
-    noted-requires
-    mul-noted-2
-    add-noted
-    noted-requires-2
-    variable-need-requires
-    added-requires
-    add-i
-    loop-less
+    (λ c. search needs)
+    (λ c κs. search needs)
+    (λ c. search needs)
+    (λ c. search needs)
+    (λ c κs. search needs)
+    (λ c κs. search needs)
+    (λ c κs. search needs)
+    (λ c. search needs)
+    (λ c. search needs)
     loop-again
     returns)

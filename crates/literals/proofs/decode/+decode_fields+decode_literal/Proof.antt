@@ -67,7 +67,6 @@ abbrev decode-fields-μ-loop : decode-fields-lts.MeasureT-loop
 decode-fields-μ-loop sorts fields members names nodes text row node first count allow place₀ total₀ i₀ place total i =
     count - i
 
--- src/decode.rt:81:5
 decode-fields-loop-holds : (t : ℕ) → decode-fields-lts.Need-loop-holds (
   field-row-reads.Asked,
   field-row-reads.Learnt,
@@ -82,9 +81,8 @@ decode-fields-loop-holds : (t : ℕ) → decode-fields-lts.Need-loop-holds (
   record-need-reads.Asked,
   record-need-reads.Learnt,
 ) (decode-fields-at t) decode-fields.Post decode-fields-Inv-loop decode-fields-μ-loop
-decode-fields-loop-holds t c = (omega arith, left-start (c .before .before .before .before .before .before .args .sorts .now) (c .before .before .before .before .before .before .args .fields .now) (c .before .before .before .before .before .before .args .members .now) (c .before .before .before .before .before .before .args .names .now) (c .before .before .before .before .before .before .args .nodes .now) (c .before .before .before .before .before .before .args .text .now) (c .before .before .before .before .before .before .args .row) (c .before .before .before .before .before .before .args .node) (c .before .before .before .before .before .before .args .first) (c .before .before .before .before .before .before .args .count) (c .before .before .before .before .before .before .args .allow))
+decode-fields-loop-holds t c = let a = c .before .before .before .before .before .before .args in (omega arith, left-start (a .sorts .now) (a .fields .now) (a .members .now) (a .names .now) (a .nodes .now) (a .text .now) (a .row) (a .node) (a .first) (a .count) (a .allow))
 
--- src/decode.rt:82:13
 decode-fields-field-row-requires : (t : ℕ) → decode-fields-lts.Need-field-row-requires (
   field-row-reads.Asked,
   field-row-reads.Learnt,
@@ -101,7 +99,6 @@ decode-fields-field-row-requires : (t : ℕ) → decode-fields-lts.Need-field-ro
 ) (decode-fields-at t) decode-fields.Post decode-fields-Inv-loop decode-fields-μ-loop
 decode-fields-field-row-requires t c κs = search needs
 
--- src/decode.rt:83:13
 decode-fields-decode-literal-requires : (t : ℕ) → decode-fields-lts.Need-decode-literal-requires (
   field-row-reads.Asked,
   field-row-reads.Learnt,
@@ -118,7 +115,6 @@ decode-fields-decode-literal-requires : (t : ℕ) → decode-fields-lts.Need-dec
 ) (decode-fields-at t) decode-fields.Post decode-fields-Inv-loop decode-fields-μ-loop
 decode-fields-decode-literal-requires t c κs = search needs
 
--- src/decode.rt:94:13
 decode-fields-field-of-requires : (t : ℕ) → decode-fields-lts.Need-field-of-requires (
   field-row-reads.Asked,
   field-row-reads.Learnt,
@@ -135,7 +131,6 @@ decode-fields-field-of-requires : (t : ℕ) → decode-fields-lts.Need-field-of-
 ) (decode-fields-at t) decode-fields.Post decode-fields-Inv-loop decode-fields-μ-loop
 decode-fields-field-of-requires t c κs = search needs
 
--- src/decode.rt:96:26
 decode-fields-enum-known-field : (t : ℕ) → decode-fields-lts.Need-enum-known-field (
   field-row-reads.Asked,
   field-row-reads.Learnt,
@@ -152,7 +147,6 @@ decode-fields-enum-known-field : (t : ℕ) → decode-fields-lts.Need-enum-known
 ) (decode-fields-at t) decode-fields.Post decode-fields-Inv-loop decode-fields-μ-loop
 decode-fields-enum-known-field t c = search needs
 
--- src/decode.rt:97:37
 decode-fields-plus-requires : (t : ℕ) → decode-fields-lts.Need-plus-requires (
   field-row-reads.Asked,
   field-row-reads.Learnt,
@@ -169,7 +163,6 @@ decode-fields-plus-requires : (t : ℕ) → decode-fields-lts.Need-plus-requires
 ) (decode-fields-at t) decode-fields.Post decode-fields-Inv-loop decode-fields-μ-loop
 decode-fields-plus-requires t c κs = search needs
 
--- src/decode.rt:97:17
 decode-fields-plus-requires-2 : (t : ℕ) → decode-fields-lts.Need-plus-requires-2 (
   field-row-reads.Asked,
   field-row-reads.Learnt,
@@ -186,7 +179,6 @@ decode-fields-plus-requires-2 : (t : ℕ) → decode-fields-lts.Need-plus-requir
 ) (decode-fields-at t) decode-fields.Post decode-fields-Inv-loop decode-fields-μ-loop
 decode-fields-plus-requires-2 t c κs = search needs
 
--- src/decode.rt:99:28
 decode-fields-enum-known-field-2 : (t : ℕ) → decode-fields-lts.Need-enum-known-field-2 (
   field-row-reads.Asked,
   field-row-reads.Learnt,
@@ -203,7 +195,6 @@ decode-fields-enum-known-field-2 : (t : ℕ) → decode-fields-lts.Need-enum-kno
 ) (decode-fields-at t) decode-fields.Post decode-fields-Inv-loop decode-fields-μ-loop
 decode-fields-enum-known-field-2 t c = search needs
 
--- src/decode.rt:100:17
 decode-fields-returns : (t : ℕ) → decode-fields-lts.Need-returns (
   field-row-reads.Asked,
   field-row-reads.Learnt,
@@ -218,9 +209,8 @@ decode-fields-returns : (t : ℕ) → decode-fields-lts.Need-returns (
   record-need-reads.Asked,
   record-need-reads.Learnt,
 ) (decode-fields-at t) decode-fields.Post decode-fields-Inv-loop decode-fields-μ-loop
-decode-fields-returns t c = left-refused (c .before .before .before .before .before .before .before .before .before .before .before .before .before .before .args .sorts .now) (c .before .before .before .before .before .before .before .before .before .before .before .before .before .before .args .fields .now) (c .before .before .before .before .before .before .before .before .before .before .before .before .before .before .args .members .now) (c .before .before .before .before .before .before .before .before .before .before .before .before .before .before .args .names .now) (c .before .before .before .before .before .before .before .before .before .before .before .before .before .before .args .nodes .now) (c .before .before .before .before .before .before .before .before .before .before .before .before .before .before .args .text .now) (c .before .before .before .before .before .before .before .before .before .before .before .before .before .before .args .row) (c .before .before .before .before .before .before .before .before .before .before .before .before .before .before .args .node) (c .before .before .before .before .before .before .before .before .before .before .before .before .before .before .args .first) (c .before .before .before .before .before .before .before .before .before .before .before .before .before .before .args .count) (c .before .before .before .before .before .before .before .before .before .before .before .before .before .before .args .allow) (c .before .before .before .before .before .before .before .loop .place) (c .before .before .before .before .before .before .before .loop .total) (c .before .before .before .before .before .before .before .loop .i) (c .before .before .before .before .before .before .before .loop .inv .1) (omega arith) _ (c .before .before .before .before .before .field-row .ensures) (c .before .before .before .before .decode-literal .result) (c .before .before .before .before .decode-literal .ensures) _ (sym (c .before .before .before .field-of .ensures) ∙ c .before .field2 .given .1)
+decode-fields-returns t c = let a = c .before .before .before .before .before .before .before .before .before .before .before .before .before .before .args in left-refused (a .sorts .now) (a .fields .now) (a .members .now) (a .names .now) (a .nodes .now) (a .text .now) (a .row) (a .node) (a .first) (a .count) (a .allow) (c .before .before .before .before .before .before .before .loop .place) (c .before .before .before .before .before .before .before .loop .total) (c .before .before .before .before .before .before .before .loop .i) (c .before .before .before .before .before .before .before .loop .inv .1) (omega arith) _ (c .before .before .before .before .before .field-row .ensures) (c .before .before .before .before .decode-literal .result) (c .before .before .before .before .decode-literal .ensures) _ (sym (c .before .before .before .field-of .ensures) ∙ c .before .field2 .given .1)
 
--- src/decode.rt:103:9
 decode-fields-after-requires : (t : ℕ) → decode-fields-lts.Need-after-requires (
   field-row-reads.Asked,
   field-row-reads.Learnt,
@@ -237,7 +227,6 @@ decode-fields-after-requires : (t : ℕ) → decode-fields-lts.Need-after-requir
 ) (decode-fields-at t) decode-fields.Post decode-fields-Inv-loop decode-fields-μ-loop
 decode-fields-after-requires t c κs = search needs
 
--- src/decode.rt:104:9
 decode-fields-add-i : (t : ℕ) → decode-fields-lts.Need-add-i (
   field-row-reads.Asked,
   field-row-reads.Learnt,
@@ -254,7 +243,6 @@ decode-fields-add-i : (t : ℕ) → decode-fields-lts.Need-add-i (
 ) (decode-fields-at t) decode-fields.Post decode-fields-Inv-loop decode-fields-μ-loop
 decode-fields-add-i t c = search needs
 
--- src/decode.rt:81:5
 decode-fields-loop-less : (t : ℕ) → decode-fields-lts.Need-loop-less (
   field-row-reads.Asked,
   field-row-reads.Learnt,
@@ -271,7 +259,6 @@ decode-fields-loop-less : (t : ℕ) → decode-fields-lts.Need-loop-less (
 ) (decode-fields-at t) decode-fields.Post decode-fields-Inv-loop decode-fields-μ-loop
 decode-fields-loop-less t c = search needs
 
--- src/decode.rt:81:5
 decode-fields-loop-again : (t : ℕ) → decode-fields-lts.Need-loop-again (
   field-row-reads.Asked,
   field-row-reads.Learnt,
@@ -286,9 +273,8 @@ decode-fields-loop-again : (t : ℕ) → decode-fields-lts.Need-loop-again (
   record-need-reads.Asked,
   record-need-reads.Learnt,
 ) (decode-fields-at t) decode-fields.Post decode-fields-Inv-loop decode-fields-μ-loop
-decode-fields-loop-again t c = (omega arith, left-next (c .before .before .before .before .before .before .before .before .before .before .before .before .before .before .before .before .before .args .sorts .now) (c .before .before .before .before .before .before .before .before .before .before .before .before .before .before .before .before .before .args .fields .now) (c .before .before .before .before .before .before .before .before .before .before .before .before .before .before .before .before .before .args .members .now) (c .before .before .before .before .before .before .before .before .before .before .before .before .before .before .before .before .before .args .names .now) (c .before .before .before .before .before .before .before .before .before .before .before .before .before .before .before .before .before .args .nodes .now) (c .before .before .before .before .before .before .before .before .before .before .before .before .before .before .before .before .before .args .text .now) (c .before .before .before .before .before .before .before .before .before .before .before .before .before .before .before .before .before .args .row) (c .before .before .before .before .before .before .before .before .before .before .before .before .before .before .before .before .before .args .node) (c .before .before .before .before .before .before .before .before .before .before .before .before .before .before .before .before .before .args .first) (c .before .before .before .before .before .before .before .before .before .before .before .before .before .before .before .before .before .args .count) (c .before .before .before .before .before .before .before .before .before .before .before .before .before .before .before .before .before .args .allow) (c .before .before .before .before .before .before .before .before .before .before .loop .place) (c .before .before .before .before .before .before .before .before .before .before .loop .total) (c .before .before .before .before .before .before .before .before .before .before .loop .i) (c .before .before .before .before .before .before .before .before .before .before .loop .inv .1) (omega arith) _ (c .before .before .before .before .before .before .before .before .field-row .ensures) (c .before .before .before .before .before .before .before .decode-literal .result) (c .before .before .before .before .before .before .before .decode-literal .ensures) _ (sym (c .before .before .before .before .before .before .field-of .ensures) ∙ c .before .before .before .before .field .given .1) _ (c .before .plus2 .ensures ∙ ap (λ (n : ℕ). capped (c .before .before .before .before .before .before .before .before .before .before .loop .total + n)) (c .before .before .plus .ensures)) _ (c .after .ensures))
+decode-fields-loop-again t c = let a = c .before .before .before .before .before .before .before .before .before .before .before .before .before .before .before .before .before .args in (omega arith, left-next (a .sorts .now) (a .fields .now) (a .members .now) (a .names .now) (a .nodes .now) (a .text .now) (a .row) (a .node) (a .first) (a .count) (a .allow) (c .before .before .before .before .before .before .before .before .before .before .loop .place) (c .before .before .before .before .before .before .before .before .before .before .loop .total) (c .before .before .before .before .before .before .before .before .before .before .loop .i) (c .before .before .before .before .before .before .before .before .before .before .loop .inv .1) (omega arith) _ (c .before .before .before .before .before .before .before .before .field-row .ensures) (c .before .before .before .before .before .before .before .decode-literal .result) (c .before .before .before .before .before .before .before .decode-literal .ensures) _ (sym (c .before .before .before .before .before .before .field-of .ensures) ∙ c .before .before .before .before .field .given .1) _ (c .before .plus2 .ensures ∙ ap (λ (n : ℕ). capped (c .before .before .before .before .before .before .before .before .before .before .loop .total + n)) (c .before .before .plus .ensures)) _ (c .after .ensures))
 
--- src/decode.rt:108:15
 decode-fields-record-need-requires : (t : ℕ) → decode-fields-lts.Need-record-need-requires (
   field-row-reads.Asked,
   field-row-reads.Learnt,
@@ -305,7 +291,6 @@ decode-fields-record-need-requires : (t : ℕ) → decode-fields-lts.Need-record
 ) (decode-fields-at t) decode-fields.Post decode-fields-Inv-loop decode-fields-μ-loop
 decode-fields-record-need-requires t c κs = search needs
 
--- src/decode.rt:63:1
 decode-fields-returns-2 : (t : ℕ) → decode-fields-lts.Need-returns-2 (
   field-row-reads.Asked,
   field-row-reads.Learnt,
@@ -320,9 +305,8 @@ decode-fields-returns-2 : (t : ℕ) → decode-fields-lts.Need-returns-2 (
   record-need-reads.Asked,
   record-need-reads.Learnt,
 ) (decode-fields-at t) decode-fields.Post decode-fields-Inv-loop decode-fields-μ-loop
-decode-fields-returns-2 t c = left-end (c .before .before .before .before .before .before .before .before .before .args .sorts .now) (c .before .before .before .before .before .before .before .before .before .args .fields .now) (c .before .before .before .before .before .before .before .before .before .args .members .now) (c .before .before .before .before .before .before .before .before .before .args .names .now) (c .before .before .before .before .before .before .before .before .before .args .nodes .now) (c .before .before .before .before .before .before .before .before .before .args .text .now) (c .before .before .before .before .before .before .before .before .before .args .row) (c .before .before .before .before .before .before .before .before .before .args .node) (c .before .before .before .before .before .before .before .before .before .args .first) (c .before .before .before .before .before .before .before .before .before .args .count) (c .before .before .before .before .before .before .before .before .before .args .allow) (c .before .before .loop .place) (c .before .before .loop .total) (c .before .before .loop .i) (c .before .before .loop .inv .1) (omega arith) (c .before .before .loop .inv .0) _ (c .record-need .ensures)
+decode-fields-returns-2 t c = let a = c .before .before .before .before .before .before .before .before .before .args in left-end (a .sorts .now) (a .fields .now) (a .members .now) (a .names .now) (a .nodes .now) (a .text .now) (a .row) (a .node) (a .first) (a .count) (a .allow) (c .before .before .loop .place) (c .before .before .loop .total) (c .before .before .loop .i) (c .before .before .loop .inv .1) (omega arith) (c .before .before .loop .inv .0) _ (c .record-need .ensures)
 
--- src/decode.rt:128:9
 decode-literal-returns : (t : ℕ) → decode-literal-lts.Need-returns (
   plan-at-reads.Asked,
   plan-at-reads.Learnt,
@@ -335,9 +319,8 @@ decode-literal-returns : (t : ℕ) → decode-literal-lts.Need-returns (
   decode-fields-below t,
   decode-fields.Post,
 ) (decode-literal-at t) decode-literal.Post
-decode-literal-returns t c = literal-nested (c .before .before .before .before .before .before .before .args .sorts .now) (c .before .before .before .before .before .before .before .args .fields .now) (c .before .before .before .before .before .before .before .args .members .now) (c .before .before .before .before .before .before .before .args .names .now) (c .before .before .before .before .before .before .before .args .nodes .now) (c .before .before .before .before .before .before .before .args .text .now) (c .before .before .before .before .before .before .before .args .at) (c .before .before .before .before .before .before .before .args .expected) (c .before .before .before .before .before .before .before .args .allow) (c .if1 .taken)
+decode-literal-returns t c = let a = c .before .before .before .before .before .before .before .args in literal-nested (a .sorts .now) (a .fields .now) (a .members .now) (a .names .now) (a .nodes .now) (a .text .now) (a .at) (a .expected) (a .allow) (c .if1 .taken)
 
--- src/decode.rt:130:17
 decode-literal-sub-below : (t : ℕ) → decode-literal-lts.Need-sub-below (
   plan-at-reads.Asked,
   plan-at-reads.Learnt,
@@ -352,7 +335,6 @@ decode-literal-sub-below : (t : ℕ) → decode-literal-lts.Need-sub-below (
 ) (decode-literal-at t) decode-literal.Post
 decode-literal-sub-below t c = search needs
 
--- src/decode.rt:131:9
 decode-literal-plan-at-requires : (t : ℕ) → decode-literal-lts.Need-plan-at-requires (
   plan-at-reads.Asked,
   plan-at-reads.Learnt,
@@ -367,7 +349,6 @@ decode-literal-plan-at-requires : (t : ℕ) → decode-literal-lts.Need-plan-at-
 ) (decode-literal-at t) decode-literal.Post
 decode-literal-plan-at-requires t c κs = search needs
 
--- src/decode.rt:135:20
 decode-literal-enum-known-plan : (t : ℕ) → decode-literal-lts.Need-enum-known-plan (
   plan-at-reads.Asked,
   plan-at-reads.Learnt,
@@ -382,7 +363,6 @@ decode-literal-enum-known-plan : (t : ℕ) → decode-literal-lts.Need-enum-know
 ) (decode-literal-at t) decode-literal.Post
 decode-literal-enum-known-plan t c = search needs
 
--- src/decode.rt:136:21
 decode-literal-enum-known-plan-2 : (t : ℕ) → decode-literal-lts.Need-enum-known-plan-2 (
   plan-at-reads.Asked,
   plan-at-reads.Learnt,
@@ -397,7 +377,6 @@ decode-literal-enum-known-plan-2 : (t : ℕ) → decode-literal-lts.Need-enum-kn
 ) (decode-literal-at t) decode-literal.Post
 decode-literal-enum-known-plan-2 t c = search needs
 
--- src/decode.rt:137:17
 decode-literal-decode-literal-requires : (t : ℕ) → decode-literal-lts.Need-decode-literal-requires (
   plan-at-reads.Asked,
   plan-at-reads.Learnt,
@@ -412,7 +391,6 @@ decode-literal-decode-literal-requires : (t : ℕ) → decode-literal-lts.Need-d
 ) (decode-literal-at t) decode-literal.Post
 decode-literal-decode-literal-requires t c κs = search needs
 
--- src/decode.rt:140:13
 decode-literal-finish-requires : (t : ℕ) → decode-literal-lts.Need-finish-requires (
   plan-at-reads.Asked,
   plan-at-reads.Learnt,
@@ -427,7 +405,6 @@ decode-literal-finish-requires : (t : ℕ) → decode-literal-lts.Need-finish-re
 ) (decode-literal-at t) decode-literal.Post
 decode-literal-finish-requires t c κs = search needs
 
--- src/decode.rt:142:21
 decode-literal-enum-known-plan-3 : (t : ℕ) → decode-literal-lts.Need-enum-known-plan-3 (
   plan-at-reads.Asked,
   plan-at-reads.Learnt,
@@ -442,7 +419,6 @@ decode-literal-enum-known-plan-3 : (t : ℕ) → decode-literal-lts.Need-enum-kn
 ) (decode-literal-at t) decode-literal.Post
 decode-literal-enum-known-plan-3 t c = search needs
 
--- src/decode.rt:143:17
 decode-literal-decode-literal-requires-2 :
     (t : ℕ) → decode-literal-lts.Need-decode-literal-requires-2 (
       plan-at-reads.Asked,
@@ -458,7 +434,6 @@ decode-literal-decode-literal-requires-2 :
     ) (decode-literal-at t) decode-literal.Post
 decode-literal-decode-literal-requires-2 t c κs = search needs
 
--- src/decode.rt:146:17
 decode-literal-decode-literal-requires-3 :
     (t : ℕ) → decode-literal-lts.Need-decode-literal-requires-3 (
       plan-at-reads.Asked,
@@ -474,7 +449,6 @@ decode-literal-decode-literal-requires-3 :
     ) (decode-literal-at t) decode-literal.Post
 decode-literal-decode-literal-requires-3 t c κs = search needs
 
--- src/decode.rt:149:13
 decode-literal-union-of-requires : (t : ℕ) → decode-literal-lts.Need-union-of-requires (
   plan-at-reads.Asked,
   plan-at-reads.Learnt,
@@ -489,7 +463,6 @@ decode-literal-union-of-requires : (t : ℕ) → decode-literal-lts.Need-union-o
 ) (decode-literal-at t) decode-literal.Post
 decode-literal-union-of-requires t c κs = search needs
 
--- src/decode.rt:151:24
 decode-literal-enum-known-plan-4 : (t : ℕ) → decode-literal-lts.Need-enum-known-plan-4 (
   plan-at-reads.Asked,
   plan-at-reads.Learnt,
@@ -504,7 +477,6 @@ decode-literal-enum-known-plan-4 : (t : ℕ) → decode-literal-lts.Need-enum-kn
 ) (decode-literal-at t) decode-literal.Post
 decode-literal-enum-known-plan-4 t c = search needs
 
--- src/decode.rt:151:53
 decode-literal-decode-fields-requires : (t : ℕ) → decode-literal-lts.Need-decode-fields-requires (
   plan-at-reads.Asked,
   plan-at-reads.Learnt,
@@ -519,7 +491,6 @@ decode-literal-decode-fields-requires : (t : ℕ) → decode-literal-lts.Need-de
 ) (decode-literal-at t) decode-literal.Post
 decode-literal-decode-fields-requires t c κs = search needs
 
--- src/decode.rt:114:1
 decode-literal-returns-2 : (t : ℕ) → decode-literal-lts.Need-returns-2 (
   plan-at-reads.Asked,
   plan-at-reads.Learnt,
@@ -532,9 +503,8 @@ decode-literal-returns-2 : (t : ℕ) → decode-literal-lts.Need-returns-2 (
   decode-fields-below t,
   decode-fields.Post,
 ) (decode-literal-at t) decode-literal.Post
-decode-literal-returns-2 t c = literal-done (c .before .before .before .before .before .before .before .before .before .before .before .args .sorts .now) (c .before .before .before .before .before .before .before .before .before .before .before .args .fields .now) (c .before .before .before .before .before .before .before .before .before .before .before .args .members .now) (c .before .before .before .before .before .before .before .before .before .before .before .args .names .now) (c .before .before .before .before .before .before .before .before .before .before .before .args .nodes .now) (c .before .before .before .before .before .before .before .before .before .before .before .args .text .now) (c .before .before .before .before .before .before .before .before .before .before .before .args .at) (c .before .before .before .before .before .before .before .before .before .before .before .args .expected) (c .before .before .before .before .before .before .before .before .before .before .before .args .allow) (c .before .before .before .before .if1 .left) _ refl (c .before .before .before .plan-at .result) (c .before .before .before .plan-at .ensures) _ (c .before .plan .given .1)
+decode-literal-returns-2 t c = let a = c .before .before .before .before .before .before .before .before .before .before .before .args in literal-done (a .sorts .now) (a .fields .now) (a .members .now) (a .names .now) (a .nodes .now) (a .text .now) (a .at) (a .expected) (a .allow) (c .before .before .before .before .if1 .left) _ refl (c .before .before .before .plan-at .result) (c .before .before .before .plan-at .ensures) _ (c .before .plan .given .1)
 
--- src/decode.rt:114:1
 decode-literal-returns-3 : (t : ℕ) → decode-literal-lts.Need-returns-3 (
   plan-at-reads.Asked,
   plan-at-reads.Learnt,
@@ -547,9 +517,8 @@ decode-literal-returns-3 : (t : ℕ) → decode-literal-lts.Need-returns-3 (
   decode-fields-below t,
   decode-fields.Post,
 ) (decode-literal-at t) decode-literal.Post
-decode-literal-returns-3 t c = literal-one (c .before .before .before .before .before .before .before .before .before .before .before .before .before .args .sorts .now) (c .before .before .before .before .before .before .before .before .before .before .before .before .before .args .fields .now) (c .before .before .before .before .before .before .before .before .before .before .before .before .before .args .members .now) (c .before .before .before .before .before .before .before .before .before .before .before .before .before .args .names .now) (c .before .before .before .before .before .before .before .before .before .before .before .before .before .args .nodes .now) (c .before .before .before .before .before .before .before .before .before .before .before .before .before .args .text .now) (c .before .before .before .before .before .before .before .before .before .before .before .before .before .args .at) (c .before .before .before .before .before .before .before .before .before .before .before .before .before .args .expected) (c .before .before .before .before .before .before .before .before .before .before .before .before .before .args .allow) (c .before .before .before .before .before .before .if1 .left) _ refl (c .before .before .before .before .before .plan-at .result) (c .before .before .before .before .before .plan-at .ensures) _ _ _ (c .before .before .before .plan2 .given .1) (c .before .decode-literal .result) (c .before .decode-literal .ensures) (c .finish .result) (c .finish .ensures)
+decode-literal-returns-3 t c = let a = c .before .before .before .before .before .before .before .before .before .before .before .before .before .args in literal-one (a .sorts .now) (a .fields .now) (a .members .now) (a .names .now) (a .nodes .now) (a .text .now) (a .at) (a .expected) (a .allow) (c .before .before .before .before .before .before .if1 .left) _ refl (c .before .before .before .before .before .plan-at .result) (c .before .before .before .before .before .plan-at .ensures) _ _ _ (c .before .before .before .plan2 .given .1) (c .before .decode-literal .result) (c .before .decode-literal .ensures) (c .finish .result) (c .finish .ensures)
 
--- src/decode.rt:114:1
 decode-literal-returns-4 : (t : ℕ) → decode-literal-lts.Need-returns-4 (
   plan-at-reads.Asked,
   plan-at-reads.Learnt,
@@ -562,9 +531,8 @@ decode-literal-returns-4 : (t : ℕ) → decode-literal-lts.Need-returns-4 (
   decode-fields-below t,
   decode-fields.Post,
 ) (decode-literal-at t) decode-literal.Post
-decode-literal-returns-4 t c = literal-two (c .before .before .before .before .before .before .before .before .before .before .before .before .before .before .args .sorts .now) (c .before .before .before .before .before .before .before .before .before .before .before .before .before .before .args .fields .now) (c .before .before .before .before .before .before .before .before .before .before .before .before .before .before .args .members .now) (c .before .before .before .before .before .before .before .before .before .before .before .before .before .before .args .names .now) (c .before .before .before .before .before .before .before .before .before .before .before .before .before .before .args .nodes .now) (c .before .before .before .before .before .before .before .before .before .before .before .before .before .before .args .text .now) (c .before .before .before .before .before .before .before .before .before .before .before .before .before .before .args .at) (c .before .before .before .before .before .before .before .before .before .before .before .before .before .before .args .expected) (c .before .before .before .before .before .before .before .before .before .before .before .before .before .before .args .allow) (c .before .before .before .before .before .before .before .if1 .left) _ refl (c .before .before .before .before .before .before .plan-at .result) (c .before .before .before .before .before .before .plan-at .ensures) _ _ (c .before .before .before .before .plan3 .given .1) (c .before .before .decode-literal2 .result) (c .before .decode-literal3 .result) (c .before .before .decode-literal2 .ensures) (c .before .decode-literal3 .ensures) (c .union-of .result) (c .union-of .ensures)
+decode-literal-returns-4 t c = let a = c .before .before .before .before .before .before .before .before .before .before .before .before .before .before .args in literal-two (a .sorts .now) (a .fields .now) (a .members .now) (a .names .now) (a .nodes .now) (a .text .now) (a .at) (a .expected) (a .allow) (c .before .before .before .before .before .before .before .if1 .left) _ refl (c .before .before .before .before .before .before .plan-at .result) (c .before .before .before .before .before .before .plan-at .ensures) _ _ (c .before .before .before .before .plan3 .given .1) (c .before .before .decode-literal2 .result) (c .before .decode-literal3 .result) (c .before .before .decode-literal2 .ensures) (c .before .decode-literal3 .ensures) (c .union-of .result) (c .union-of .ensures)
 
--- src/decode.rt:114:1
 decode-literal-returns-5 : (t : ℕ) → decode-literal-lts.Need-returns-5 (
   plan-at-reads.Asked,
   plan-at-reads.Learnt,
@@ -577,7 +545,7 @@ decode-literal-returns-5 : (t : ℕ) → decode-literal-lts.Need-returns-5 (
   decode-fields-below t,
   decode-fields.Post,
 ) (decode-literal-at t) decode-literal.Post
-decode-literal-returns-5 t c = literal-record (c .before .before .before .before .before .before .before .before .before .before .before .before .args .sorts .now) (c .before .before .before .before .before .before .before .before .before .before .before .before .args .fields .now) (c .before .before .before .before .before .before .before .before .before .before .before .before .args .members .now) (c .before .before .before .before .before .before .before .before .before .before .before .before .args .names .now) (c .before .before .before .before .before .before .before .before .before .before .before .before .args .nodes .now) (c .before .before .before .before .before .before .before .before .before .before .before .before .args .text .now) (c .before .before .before .before .before .before .before .before .before .before .before .before .args .at) (c .before .before .before .before .before .before .before .before .before .before .before .before .args .expected) (c .before .before .before .before .before .before .before .before .before .before .before .before .args .allow) (c .before .before .before .before .before .if1 .left) _ refl (c .before .before .before .before .plan-at .result) (c .before .before .before .before .plan-at .ensures) _ _ _ _ (c .before .before .plan4 .given .1) (c .decode-fields .result) (c .decode-fields .ensures)
+decode-literal-returns-5 t c = let a = c .before .before .before .before .before .before .before .before .before .before .before .before .args in literal-record (a .sorts .now) (a .fields .now) (a .members .now) (a .names .now) (a .nodes .now) (a .text .now) (a .at) (a .expected) (a .allow) (c .before .before .before .before .before .if1 .left) _ refl (c .before .before .before .before .plan-at .result) (c .before .before .before .before .plan-at .ensures) _ _ _ _ (c .before .before .plan4 .given .1) (c .decode-fields .result) (c .decode-fields .ensures)
 
 pub +decode-fields+decode-literal-spec : {M : Type 1} → statement M
 +decode-fields+decode-literal-spec =

@@ -9,30 +9,15 @@ use Rattle.literals.proofs.decode.record_need.Lts as lts
 use Rattle.decimals.proofs.digit_count.Reads as digit-count-reads
 use Rattle.literals.proofs.answer.plus.Reads as plus-reads
 
--- src/decode.rt:55:17
-digit-count-requires : tie.Need-digit-count-requires
-digit-count-requires c κs = search needs
-
--- src/decode.rt:55:17
 add-frame : tie.Need-add-frame
 add-frame c = record { fits = omega (arith, count-most (c .before .args .row), c .digit-count .ensures) }
 
--- src/decode.rt:57:9
 returns : tie.Need-returns
 returns c = record-none (c .before .before .args .row) _ (c .before .before .args .total) (omega (arith, c .before .digit-count .ensures)) (count-most (c .before .before .args .row)) (c .if1 .taken)
 
--- src/decode.rt:59:10
-sub-plus : tie.Need-sub-plus
-sub-plus c = search needs
-
--- src/decode.rt:59:5
-plus-requires : tie.Need-plus-requires
-plus-requires c κs = search needs
-
--- src/decode.rt:52:1
 returns-2 : tie.Need-returns-2
-returns-2 c = record-some (c .before .before .before .args .row) _ (c .before .before .before .args .total) (omega (arith, c .before .before .digit-count .ensures)) (count-most (c .before .before .before .args .row)) (c .before .if1 .left) _ (c .plus .ensures)
+returns-2 c = let a = c .before .before .before .args in record-some (a .row) _ (a .total) (omega (arith, c .before .before .digit-count .ensures)) (count-most (a .row)) (c .before .if1 .left) _ (c .plus .ensures)
 
 pub record-need-spec : {M : Type 1} → statement M
 record-need-spec =
-    tie.close (tie.spec digit-count-requires add-frame returns sub-plus plus-requires returns-2)
+    tie.close (tie.spec (λ c κs. search needs) add-frame returns (λ c. search needs) (λ c κs. search needs) returns-2)

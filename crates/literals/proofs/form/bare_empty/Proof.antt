@@ -6,21 +6,11 @@ use Rattle.literals.proofs.form.bare_empty.Tie as tie
 use Rattle.literals.proofs.form.bare_empty.Reads as reads
 use Rattle.literals.proofs.form.bare_empty.Lts as lts
 
--- src/form.rt:124:26
-enum-told : tie.Need-enum-told
-enum-told c = search needs
-
--- src/form.rt:129:42
-enum-told-2 : tie.Need-enum-told-2
-enum-told-2 c = search needs
-
--- src/form.rt:120:1
 returns : tie.Need-returns
 returns c = bare-row Form.Set (c .before .before .args .row) (c .before .before .args .inside) _ (c .enum-told .given .1)
 
--- src/form.rt:120:1
 returns-2 : tie.Need-returns-2
 returns-2 c = bare-missing Form.Set (c .before .before .args .row) (c .before .before .args .inside) (c .enum-told2 .given .1)
 
 pub bare-empty-spec : {M : Type 1} → statement M
-bare-empty-spec = tie.close (tie.spec enum-told enum-told-2 returns returns-2)
+bare-empty-spec = tie.close (tie.spec (λ c. search needs) (λ c. search needs) returns returns-2)

@@ -6,21 +6,11 @@ use Rattle.literals.proofs.form.bare_none.Tie as tie
 use Rattle.literals.proofs.form.bare_none.Reads as reads
 use Rattle.literals.proofs.form.bare_none.Lts as lts
 
--- src/form.rt:111:26
-enum-told : tie.Need-enum-told
-enum-told c = search needs
-
--- src/form.rt:116:42
-enum-told-2 : tie.Need-enum-told-2
-enum-told-2 c = search needs
-
--- src/form.rt:107:1
 returns : tie.Need-returns
 returns c = bare-row Form.Option (c .before .before .args .row) (c .before .before .args .inside) _ (c .enum-told .given .1)
 
--- src/form.rt:107:1
 returns-2 : tie.Need-returns-2
 returns-2 c = bare-missing Form.Option (c .before .before .args .row) (c .before .before .args .inside) (c .enum-told2 .given .1)
 
 pub bare-none-spec : {M : Type 1} → statement M
-bare-none-spec = tie.close (tie.spec enum-told enum-told-2 returns returns-2)
+bare-none-spec = tie.close (tie.spec (λ c. search needs) (λ c. search needs) returns returns-2)

@@ -6,25 +6,17 @@ use Rattle.literals.proofs.form.joined.Reads as reads
 use Rattle.literals.proofs.form.joined.Lts as lts
 use Rattle.literals.proofs.form.union_need.Reads as union-need-reads
 
--- src/form.rt:202:9
 returns : tie.Need-returns
 returns c = join-rows (c .before .args .row) (c .before .args .need) (c .before .args .other) (c .before .args .more) (c .before .args .set) (c .before .args .another) (c .if1 .taken)
 
--- src/form.rt:206:17
-union-need-requires : tie.Need-union-need-requires
-union-need-requires c κs = search needs
-
--- src/form.rt:207:13
 returns-2 : tie.Need-returns-2
-returns-2 c = join-sets (c .before .before .before .before .args .row) (c .before .before .before .before .args .need) (c .before .before .before .before .args .other) (c .before .before .before .before .args .more) (c .before .before .before .before .args .set) (c .before .before .before .before .args .another) (c .before .before .before .if1 .left) (c .before .before .if2 .taken) (c .before .if3 .taken) (c .union-need .result) (c .union-need .ensures)
+returns-2 c = let a = c .before .before .before .before .args in join-sets (a .row) (a .need) (a .other) (a .more) (a .set) (a .another) (c .before .before .before .if1 .left) (c .before .before .if2 .taken) (c .before .if3 .taken) (c .union-need .result) (c .union-need .ensures)
 
--- src/form.rt:198:1
 returns-3 : tie.Need-returns-3
-returns-3 c = join-second (c .before .before .before .args .row) (c .before .before .before .args .need) (c .before .before .before .args .other) (c .before .before .before .args .more) (c .before .before .before .args .set) (c .before .before .before .args .another) (c .before .before .if1 .left) (c .before .if2 .taken) (c .if3 .left)
+returns-3 c = let a = c .before .before .before .args in join-second (a .row) (a .need) (a .other) (a .more) (a .set) (a .another) (c .before .before .if1 .left) (c .before .if2 .taken) (c .if3 .left)
 
--- src/form.rt:198:1
 returns-4 : tie.Need-returns-4
 returns-4 c = join-first (c .before .before .args .row) (c .before .before .args .need) (c .before .before .args .other) (c .before .before .args .more) (c .before .before .args .set) (c .before .before .args .another) (c .before .if1 .left) (c .if2 .left)
 
 pub joined-spec : {M : Type 1} → statement M
-joined-spec = tie.close (tie.spec returns union-need-requires returns-2 returns-3 returns-4)
+joined-spec = tie.close (tie.spec returns (λ c κs. search needs) returns-2 returns-3 returns-4)

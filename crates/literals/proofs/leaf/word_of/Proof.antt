@@ -10,37 +10,16 @@ use Rattle.literals.proofs.leaf.word_of.Lts as lts
 use Rattle.literals.proofs.leaf.word_lit.Reads as word-lit-reads
 use Rattle.tables.proofs.clamp.Reads as clamp-reads
 
--- src/leaf.rt:102:9
-clamp-requires : tie.Need-clamp-requires
-clamp-requires c κs = search needs
-
--- src/leaf.rt:105:37
-sub-word-lit : tie.Need-sub-word-lit
-sub-word-lit c = search needs
-
--- src/leaf.rt:105:37
-part-word-lit-start : tie.Need-part-word-lit-start
-part-word-lit-start c = search needs
-
--- src/leaf.rt:105:37
-part-word-lit-end : tie.Need-part-word-lit-end
-part-word-lit-end c = search needs
-
--- src/leaf.rt:105:5
-word-lit-requires : tie.Need-word-lit-requires
-word-lit-requires c κs = search needs
-
--- src/leaf.rt:99:1
 returns : tie.Need-returns
-returns c = subst (λ (s : List ℕ). WordOf (c .before .before .before .before .before .before .before .args .sorts .now) (c .before .before .before .before .before .before .before .args .members .now) (c .before .before .before .before .before .before .before .args .names .now) s (c .word-lit .result)) (c .before .before .clamp .ensures .holds (c .before .before .before .before .before .before .before .args .text .now) refl) (c .word-lit .ensures)
+returns c = let a = c .before .before .before .before .before .before .before .args in subst (λ (s : List ℕ). WordOf (a .sorts .now) (a .members .now) (a .names .now) s (c .word-lit .result)) (c .before .before .clamp .ensures .holds (a .text .now) refl) (c .word-lit .ensures)
 
 pub word-of-spec : {M : Type 1} → statement M
 word-of-spec =
     tie.close
     (tie.spec
-    clamp-requires
-    sub-word-lit
-    part-word-lit-start
-    part-word-lit-end
-    word-lit-requires
+    (λ c κs. search needs)
+    (λ c. search needs)
+    (λ c. search needs)
+    (λ c. search needs)
+    (λ c κs. search needs)
     returns)

@@ -14,39 +14,18 @@ Inv-loop size ends last₀ at₀ last at = Checking size ends last at
 abbrev μ-loop : tie.MeasureT-loop
 μ-loop size ends last₀ at₀ last at = length ends - at
 
--- src/ends.rt:31:5
 loop-holds : tie.Need-loop-holds Inv-loop μ-loop
 loop-holds c = checking-start _ _
 
--- src/ends.rt:32:19
-mul-end : tie.Need-mul-end Inv-loop μ-loop
-mul-end c = search needs
-
--- src/ends.rt:32:19
-shared-slice-read-end : tie.Need-shared-slice-read-end Inv-loop μ-loop
-shared-slice-read-end c = search needs
-
--- src/ends.rt:34:13
 returns : tie.Need-returns Inv-loop μ-loop
 returns c = checking-fall _ _ _ _ (c .before .before .before .loop .inv) (c .before .before .loop-test .taken) (c .if1 .taken)
 
--- src/ends.rt:37:13
 returns-2 : tie.Need-returns-2 Inv-loop μ-loop
 returns-2 c = checking-past _ _ _ _ (c .before .before .before .before .loop .inv) (c .before .before .before .loop-test .taken) (omega (arith, c .before .if1 .left)) (c .if2 .taken)
 
--- src/ends.rt:40:9
-add-at : tie.Need-add-at Inv-loop μ-loop
-add-at c = search needs
-
--- src/ends.rt:31:5
-loop-less : tie.Need-loop-less Inv-loop μ-loop
-loop-less c = search needs
-
--- src/ends.rt:31:5
 loop-again : tie.Need-loop-again Inv-loop μ-loop
 loop-again c = checking-step _ _ _ _ (c .before .before .before .before .loop .inv) (c .before .before .before .loop-test .taken) (omega (arith, c .before .if1 .left)) (omega (arith, c .if2 .left))
 
--- src/ends.rt:26:1
 returns-3 : tie.Need-returns-3 Inv-loop μ-loop
 returns-3 c = checking-end _ _ _ _ (c .before .loop .inv) (c .loop-test .left)
 
@@ -57,11 +36,11 @@ check-ends-spec =
     Inv-loop
     μ-loop
     loop-holds
-    mul-end
-    shared-slice-read-end
+    (λ c. search needs)
+    (λ c. search needs)
     returns
     returns-2
-    add-at
-    loop-less
+    (λ c. search needs)
+    (λ c. search needs)
     loop-again
     returns-3)

@@ -6,11 +6,9 @@ use Rattle.parts.proofs.ends.exceeds.Tie as tie
 use Rattle.parts.proofs.ends.exceeds.Reads as reads
 use Rattle.parts.proofs.ends.exceeds.Lts as lts
 
--- src/ends.rt:15:9
 returns : tie.Need-returns
 returns c = rw (lt-ltb 16777216 (c .before .args .size) (c .if1 .taken)) refl
 
--- src/ends.rt:11:1
 returns-2 : tie.Need-returns-2
 returns-2 c = rw (le-ltb 16777216 (c .before .args .size) (omega (arith, c .if1 .left))) refl
 

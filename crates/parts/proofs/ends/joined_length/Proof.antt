@@ -6,25 +6,14 @@ use Rattle.parts.proofs.ends.joined_length.Tie as tie
 use Rattle.parts.proofs.ends.joined_length.Reads as reads
 use Rattle.parts.proofs.ends.joined_length.Lts as lts
 
--- src/ends.rt:62:9
 returns : tie.Need-returns
 returns c = gap-none (c .before .args .last) (c .before .args .count) (c .before .args .gap) (c .if1 .taken)
 
--- src/ends.rt:64:13
-sub-result : tie.Need-sub-result
-sub-result c = search needs
-
--- src/ends.rt:64:12
 mul-result : tie.Need-mul-result
 mul-result c = record { fits = omega (arith, gap-small (c .before .args .count) (c .before .args .gap) ((c .before .pre) .1) ((c .before .pre) .2)) }
 
--- src/ends.rt:64:5
 add-result : tie.Need-add-result
 add-result c = record { fits = omega (arith, (c .before .pre) .0, gap-small (c .before .args .count) (c .before .args .gap) ((c .before .pre) .1) ((c .before .pre) .2)) }
 
--- src/ends.rt:57:1
-returns-2 : tie.Need-returns-2
-returns-2 c = search needs
-
 pub joined-length-spec : {M : Type 1} → statement M
-joined-length-spec = tie.close (tie.spec returns sub-result mul-result add-result returns-2)
+joined-length-spec = tie.close (tie.spec returns (λ c. search needs) mul-result add-result (λ c. search needs))

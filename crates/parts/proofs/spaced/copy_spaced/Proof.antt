@@ -17,41 +17,20 @@ Inv-loop text out₀ at₀ out at = Copying (map spaced text) out₀ out at
 abbrev μ-loop : tie.MeasureT-loop
 μ-loop text out₀ at₀ out at = length text - at
 
--- src/spaced.rt:21:5
 loop-holds : tie.Need-loop-holds Inv-loop μ-loop
 loop-holds c = spacing-start (c .before .before .args .text .now) (c .before .before .args .out .now) (c .before .before .pre)
 
--- src/spaced.rt:22:35
-shared-slice-read-space-for-feed : tie.Need-shared-slice-read-space-for-feed Inv-loop μ-loop
-shared-slice-read-space-for-feed c = search needs
-
--- src/spaced.rt:22:13
-space-for-feed-requires : tie.Need-space-for-feed-requires Inv-loop μ-loop
-space-for-feed-requires c κs = search needs
-
--- src/spaced.rt:23:9
 slice-write-out : tie.Need-slice-write-out Inv-loop μ-loop
-slice-write-out c = spacing-within (c .before .before .before .before .before .before .args .text .now) (c .before .before .before .before .before .before .args .out .now) _ _ (c .before .before .before .loop .inv) (c .before .before .loop-test .taken)
+slice-write-out c = let a = c .before .before .before .before .before .before .args in spacing-within (a .text .now) (a .out .now) _ _ (c .before .before .before .loop .inv) (c .before .before .loop-test .taken)
 
--- src/spaced.rt:24:9
-add-at : tie.Need-add-at Inv-loop μ-loop
-add-at c = search needs
-
--- src/spaced.rt:21:5
-loop-less : tie.Need-loop-less Inv-loop μ-loop
-loop-less c = search needs
-
--- src/spaced.rt:21:5
 loop-again : tie.Need-loop-again Inv-loop μ-loop
-loop-again c = spacing-step (c .before .before .before .before .before .before .args .text .now) (c .before .before .before .before .before .before .args .out .now) _ _ (c .before .before .before .loop .inv) (c .before .before .loop-test .taken) _ (c .space-for-feed .ensures)
+loop-again c = let a = c .before .before .before .before .before .before .args in spacing-step (a .text .now) (a .out .now) _ _ (c .before .before .before .loop .inv) (c .before .before .loop-test .taken) _ (c .space-for-feed .ensures)
 
--- src/spaced.rt:16:1
 same-length : tie.Need-same-length Inv-loop μ-loop
 same-length c = c .before .loop .inv .long
 
--- src/spaced.rt:16:1
 returns : tie.Need-returns Inv-loop μ-loop
-returns c = spacing-end (c .before .before .before .before .args .text .now) (c .before .before .before .before .args .out .now) _ _ (c .before .loop .inv) (c .loop-test .left)
+returns c = let a = c .before .before .before .before .args in spacing-end (a .text .now) (a .out .now) _ _ (c .before .loop .inv) (c .loop-test .left)
 
 pub copy-spaced-spec : {M : Type 1} → statement M
 copy-spaced-spec =
@@ -60,11 +39,11 @@ copy-spaced-spec =
     Inv-loop
     μ-loop
     loop-holds
-    shared-slice-read-space-for-feed
-    space-for-feed-requires
+    (λ c. search needs)
+    (λ c κs. search needs)
     slice-write-out
-    add-at
-    loop-less
+    (λ c. search needs)
+    (λ c. search needs)
     loop-again
     same-length
     returns)

@@ -5,11 +5,9 @@ use Rattle.parts.proofs.spaced.space_for_feed.Tie as tie
 use Rattle.parts.proofs.spaced.space_for_feed.Reads as reads
 use Rattle.parts.proofs.spaced.space_for_feed.Lts as lts
 
--- src/spaced.rt:9:1
 returns : tie.Need-returns
 returns c = rw (eq-eqb (c .before .args .byte) 10 (c .if1 .taken)) refl
 
--- src/spaced.rt:9:1
 returns-2 : tie.Need-returns-2
 returns-2 c = rw (ne-eqb (c .before .args .byte) 10 (c .if1 .left)) refl
 

@@ -8,26 +8,15 @@ use Rattle.reader.proofs.tally.atom_turn.Reads as reads
 use Rattle.reader.proofs.tally.atom_turn.Lts as lts
 use Rattle.brackets.proofs.scan.Scan.adds.Reads as adds-reads
 
--- src/tally.rt:24:21
-enum-known-sized : tie.Need-enum-known-sized
-enum-known-sized c = search needs
-
--- src/tally.rt:24:45
 adds-requires : tie.Need-adds-requires
 adds-requires c κs = (c .before .before .before .pre .nodes, c .before .before .before .pre .text _ (c .before .sized .given .1))
 
--- src/tally.rt:25:22
-enum-known-sized-2 : tie.Need-enum-known-sized-2
-enum-known-sized-2 c = search needs
-
--- src/tally.rt:19:1
 returns : tie.Need-returns
 returns c = ap Scanned (c .adds .ensures) ∙ sym (ap (sizedTurn (c .before .before .before .before .args .scan)) (c .before .before .sized .given .1))
 
--- src/tally.rt:19:1
 returns-2 : tie.Need-returns-2
 returns-2 c = sym (ap (sizedTurn (c .before .before .before .args .scan)) (c .before .sized2 .given .1))
 
 pub atom-turn-spec : {M : Type 1} → statement M
 atom-turn-spec =
-    tie.close (tie.spec enum-known-sized adds-requires enum-known-sized-2 returns returns-2)
+    tie.close (tie.spec (λ c. search needs) adds-requires (λ c. search needs) returns returns-2)

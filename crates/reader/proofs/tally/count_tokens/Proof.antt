@@ -20,71 +20,48 @@ Inv-loop table s scan₀ at₀ scan at = Sofar s at scan
 abbrev μ-loop : tie.MeasureT-loop
 μ-loop table s scan₀ at₀ scan at = length s - at
 
--- src/tally.rt:51:9
 begin-requires : tie.Need-begin-requires Inv-loop μ-loop
 begin-requires c κs = tt
 
--- src/tally.rt:53:5
 loop-holds : tie.Need-loop-holds Inv-loop μ-loop
 loop-holds c = subst (Sofar (c .before .before .args .s .now) 0) (sym (c .begin .ensures)) (sofar-start (c .before .before .args .s .now))
 
--- src/tally.rt:54:13
 lexeme-at-requires : tie.Need-lexeme-at-requires Inv-loop μ-loop
 lexeme-at-requires c κs = (c .before .before .before .before .pre .0, c .loop-test .taken)
 
--- src/tally.rt:55:20
 add-from : tie.Need-add-from Inv-loop μ-loop
-add-from c = omega (arith, c .before .before .before .before .before .before .pre .1, found-within (c .before .before .before .before .before .before .args .s .now) (c .before .before .before .loop .at) _ (c .before .before .loop-test .taken) (c .before .lexeme-at .ensures), found-there (c .before .before .before .before .before .before .args .s .now) (c .before .before .before .loop .at) _ (c .before .before .loop-test .taken) (c .before .lexeme-at .ensures))
+add-from c = let a = c .before .before .before .before .before .before .args in omega (arith, c .before .before .before .before .before .before .pre .1, found-within (a .s .now) (c .before .before .before .loop .at) _ (c .before .before .loop-test .taken) (c .before .lexeme-at .ensures), found-there (a .s .now) (c .before .before .before .loop .at) _ (c .before .before .loop-test .taken) (c .before .lexeme-at .ensures))
 
--- src/tally.rt:56:19
 add-end : tie.Need-add-end Inv-loop μ-loop
-add-end c = omega (arith, c .before .before .before .before .before .before .before .pre .1, found-within (c .before .before .before .before .before .before .before .args .s .now) (c .before .before .before .before .loop .at) _ (c .before .before .before .loop-test .taken) (c .before .before .lexeme-at .ensures), found-there (c .before .before .before .before .before .before .before .args .s .now) (c .before .before .before .before .loop .at) _ (c .before .before .before .loop-test .taken) (c .before .before .lexeme-at .ensures))
+add-end c = let a = c .before .before .before .before .before .before .before .args in omega (arith, c .before .before .before .before .before .before .before .pre .1, found-within (a .s .now) (c .before .before .before .before .loop .at) _ (c .before .before .before .loop-test .taken) (c .before .before .lexeme-at .ensures), found-there (a .s .now) (c .before .before .before .before .loop .at) _ (c .before .before .before .loop-test .taken) (c .before .before .lexeme-at .ensures))
 
--- src/tally.rt:58:37
 sub-turn : tie.Need-sub-turn Inv-loop μ-loop
 sub-turn c = omega arith
 
--- src/tally.rt:58:37
 part-turn-start : tie.Need-part-turn-start Inv-loop μ-loop
 part-turn-start c = omega arith
 
--- src/tally.rt:58:37
 part-turn-end : tie.Need-part-turn-end Inv-loop μ-loop
-part-turn-end c = omega (arith, found-within (c .before .before .before .before .before .before .before .args .s .now) (c .before .before .before .before .loop .at) _ (c .before .before .before .loop-test .taken) (c .before .before .lexeme-at .ensures), found-there (c .before .before .before .before .before .before .before .args .s .now) (c .before .before .before .before .loop .at) _ (c .before .before .before .loop-test .taken) (c .before .before .lexeme-at .ensures))
+part-turn-end c = let a = c .before .before .before .before .before .before .before .args in omega (arith, found-within (a .s .now) (c .before .before .before .before .loop .at) _ (c .before .before .before .loop-test .taken) (c .before .before .lexeme-at .ensures), found-there (a .s .now) (c .before .before .before .before .loop .at) _ (c .before .before .before .loop-test .taken) (c .before .before .lexeme-at .ensures))
 
--- src/tally.rt:58:13
 turn-requires : tie.Need-turn-requires Inv-loop μ-loop
-turn-requires c κs = ample (c .before .before .before .before .before .before .before .before .args .s .now) (c .before .before .before .before .before .loop .at) (c .before .before .before .before .before .loop .scan) (c .before .before .before .lexeme-at .result) (c .before .before .before .before .before .loop .inv) (bytes-of (c .before .before .before .before .before .before .before .before .args .s .now) (λ i. c .before .before .before .before .before .before .before .shared-slice-known .given i .fits)) (c .before .before .before .before .loop-test .taken) (c .before .before .before .lexeme-at .ensures) (c .before .before .before .before .before .before .before .before .pre .1)
+turn-requires c κs = let a = c .before .before .before .before .before .before .before .before .args in ample (a .s .now) (c .before .before .before .before .before .loop .at) (c .before .before .before .before .before .loop .scan) (c .before .before .before .lexeme-at .result) (c .before .before .before .before .before .loop .inv) (bytes-of (a .s .now) (λ i. c .before .before .before .before .before .before .before .shared-slice-known .given i .fits)) (c .before .before .before .before .loop-test .taken) (c .before .before .before .lexeme-at .ensures) (c .before .before .before .before .before .before .before .before .pre .1)
 
--- src/tally.rt:59:28
-enum-known-next : tie.Need-enum-known-next Inv-loop μ-loop
-enum-known-next c = search needs
-
--- src/tally.rt:60:13
-enum-told : tie.Need-enum-told Inv-loop μ-loop
-enum-told c = search needs
-
--- src/tally.rt:60:13
 returns : tie.Need-returns Inv-loop μ-loop
-returns c = sofar-fault (c .before .before .before .before .before .before .before .before .before .before .before .args .s .now) (c .before .before .before .before .before .before .before .before .loop .at) (c .before .before .before .before .before .before .before .before .loop .scan) (c .before .before .before .before .before .before .lexeme-at .result) (c .before .before .before .before .before .before .before .before .loop .inv) (bytes-of (c .before .before .before .before .before .before .before .before .before .before .before .args .s .now) (λ i. c .before .before .before .before .before .before .before .before .before .before .shared-slice-known .given i .fits)) (c .before .before .before .before .before .before .before .loop-test .taken) (c .before .before .before .before .before .before .lexeme-at .ensures) (c .before .before .turn .result) _ (c .enum-told .given .1) (c .before .before .turn .ensures)
+returns c = let a = c .before .before .before .before .before .before .before .before .before .before .before .args in sofar-fault (a .s .now) (c .before .before .before .before .before .before .before .before .loop .at) (c .before .before .before .before .before .before .before .before .loop .scan) (c .before .before .before .before .before .before .lexeme-at .result) (c .before .before .before .before .before .before .before .before .loop .inv) (bytes-of (a .s .now) (λ i. c .before .before .before .before .before .before .before .before .before .before .shared-slice-known .given i .fits)) (c .before .before .before .before .before .before .before .loop-test .taken) (c .before .before .before .before .before .before .lexeme-at .ensures) (c .before .before .turn .result) _ (c .enum-told .given .1) (c .before .before .turn .ensures)
 
--- src/tally.rt:63:44
 add-past-blanks : tie.Need-add-past-blanks Inv-loop μ-loop
 add-past-blanks c = omega (arith, c .before .before .before .before .before .before .before .before .before .before .before .before .before .pre .1, found-there (c .before .before .before .before .before .before .before .before .before .before .before .before .before .args .s .now) (c .before .before .before .before .before .before .before .before .before .before .loop .at) _ (c .before .before .before .before .before .before .before .before .before .loop-test .taken) (c .before .before .before .before .before .before .before .before .lexeme-at .ensures))
 
--- src/tally.rt:63:9
 past-blanks-requires : tie.Need-past-blanks-requires Inv-loop μ-loop
 past-blanks-requires c κs = (c .before .before .before .before .before .before .before .before .before .before .before .before .before .pre .0, found-there (c .before .before .before .before .before .before .before .before .before .before .before .before .before .args .s .now) (c .before .before .before .before .before .before .before .before .before .before .loop .at) _ (c .before .before .before .before .before .before .before .before .before .loop-test .taken) (c .before .before .before .before .before .before .before .before .lexeme-at .ensures))
 
--- src/tally.rt:53:5
 loop-less : tie.Need-loop-less Inv-loop μ-loop
-loop-less c = omega (arith, c .past-blanks .ensures .onward, c .before .before .before .before .before .before .before .before .before .before .loop-test .taken, found-some (c .before .before .before .before .before .before .before .before .before .before .before .before .before .before .args .s .now) (c .before .before .before .before .before .before .before .before .before .before .before .loop .at) _ (c .before .before .before .before .before .before .before .before .before .before .loop-test .taken) (c .before .before .before .before .before .before .before .before .before .lexeme-at .ensures), found-there (c .before .before .before .before .before .before .before .before .before .before .before .before .before .before .args .s .now) (c .before .before .before .before .before .before .before .before .before .before .before .loop .at) _ (c .before .before .before .before .before .before .before .before .before .before .loop-test .taken) (c .before .before .before .before .before .before .before .before .before .lexeme-at .ensures))
+loop-less c = let a = c .before .before .before .before .before .before .before .before .before .before .before .before .before .before .args in omega (arith, c .past-blanks .ensures .onward, c .before .before .before .before .before .before .before .before .before .before .loop-test .taken, found-some (a .s .now) (c .before .before .before .before .before .before .before .before .before .before .before .loop .at) _ (c .before .before .before .before .before .before .before .before .before .before .loop-test .taken) (c .before .before .before .before .before .before .before .before .before .lexeme-at .ensures), found-there (a .s .now) (c .before .before .before .before .before .before .before .before .before .before .before .loop .at) _ (c .before .before .before .before .before .before .before .before .before .before .loop-test .taken) (c .before .before .before .before .before .before .before .before .before .lexeme-at .ensures))
 
--- src/tally.rt:53:5
 loop-again : tie.Need-loop-again Inv-loop μ-loop
-loop-again c = sofar-past _ _ _ _ (sofar-step (c .before .before .before .before .before .before .before .before .before .before .before .before .before .before .args .s .now) (c .before .before .before .before .before .before .before .before .before .before .before .loop .at) (c .before .before .before .before .before .before .before .before .before .before .before .loop .scan) (c .before .before .before .before .before .before .before .before .before .lexeme-at .result) (c .before .before .before .before .before .before .before .before .before .before .before .loop .inv) (bytes-of (c .before .before .before .before .before .before .before .before .before .before .before .before .before .before .args .s .now) (λ i. c .before .before .before .before .before .before .before .before .before .before .before .before .before .shared-slice-known .given i .fits)) (c .before .before .before .before .before .before .before .before .before .before .loop-test .taken) (c .before .before .before .before .before .before .before .before .before .lexeme-at .ensures) _ (sym (c .before .before .before .next .given .1) ∙ c .before .before .before .before .before .turn .ensures)) (c .past-blanks .ensures)
+loop-again c = let a = c .before .before .before .before .before .before .before .before .before .before .before .before .before .before .args in sofar-past _ _ _ _ (sofar-step (a .s .now) (c .before .before .before .before .before .before .before .before .before .before .before .loop .at) (c .before .before .before .before .before .before .before .before .before .before .before .loop .scan) (c .before .before .before .before .before .before .before .before .before .lexeme-at .result) (c .before .before .before .before .before .before .before .before .before .before .before .loop .inv) (bytes-of (a .s .now) (λ i. c .before .before .before .before .before .before .before .before .before .before .before .before .before .shared-slice-known .given i .fits)) (c .before .before .before .before .before .before .before .before .before .before .loop-test .taken) (c .before .before .before .before .before .before .before .before .before .lexeme-at .ensures) _ (sym (c .before .before .before .next .given .1) ∙ c .before .before .before .before .before .turn .ensures)) (c .past-blanks .ensures)
 
--- src/tally.rt:47:1
 returns-2 : tie.Need-returns-2 Inv-loop μ-loop
 returns-2 c = sofar-end (c .before .before .before .before .args .s .now) (c .before .loop .at) (c .before .loop .scan) (c .before .loop .inv) (c .loop-test .left)
 
@@ -103,8 +80,8 @@ count-tokens-spec =
     part-turn-start
     part-turn-end
     turn-requires
-    enum-known-next
-    enum-told
+    (λ c. search needs)
+    (λ c. search needs)
     returns
     add-past-blanks
     past-blanks-requires

@@ -16,57 +16,29 @@ use Rattle.reader.proofs.write.write_node.Reads as write-node-reads
 use Rattle.words.proofs.parse.Reads as parse-reads
 use Rattle.words.proofs.pair.Pair.sign_extend.Reads as sign-extend-reads
 
--- src/write.rt:42:9
-parse-requires : tie.Need-parse-requires
-parse-requires c κs = search needs
-
--- src/write.rt:43:24
-enum-known-found : tie.Need-enum-known-found
-enum-known-found c = search needs
-
--- src/write.rt:44:9
-enum-told : tie.Need-enum-told
-enum-told c = search needs
-
--- src/write.rt:44:9
 returns : tie.Need-returns
-returns c = absurd (no-fault (c .before .before .before .before .before .before .args .scan) _ (λ n. bits (bitsOf (c .before .before .before .before .before .before .args .radix) * length (c .before .before .before .before .before .before .args .digits .now)) (extended (bitsOf (c .before .before .before .before .before .before .args .radix) * length (c .before .before .before .before .before .before .args .digits .now)) n)) (c .before .before .before .before .before .before .args .nodes .now) (c .before .before .before .before .before .before .args .stack .now) (c .before .before .before .before .before .before .pre .1) _ (sym (c .before .before .parse .ensures) ∙ c .enum-told .given .1))
+returns c = let a = c .before .before .before .before .before .before .args in absurd (no-fault (a .scan) _ (λ n. bits (bitsOf (a .radix) * length (a .digits .now)) (extended (bitsOf (a .radix) * length (a .digits .now)) n)) (a .nodes .now) (a .stack .now) (c .before .before .before .before .before .before .pre .1) _ (sym (c .before .before .parse .ensures) ∙ c .enum-told .given .1))
 
--- src/write.rt:46:17
-digit-bits-requires : tie.Need-digit-bits-requires
-digit-bits-requires c κs = search needs
-
--- src/write.rt:46:17
 mul-width : tie.Need-mul-width
-mul-width c = omega (arith, bits-fit (c .before .before .before .before .before .before .before .before .args .radix) (length (c .before .before .before .before .before .before .before .before .args .digits .now)) (c .digit-bits .result) (c .digit-bits .ensures) (c .before .before .before .before .before .before .before .before .pre .0))
+mul-width c = let a = c .before .before .before .before .before .before .before .before .args in omega (arith, bits-fit (a .radix) (length (a .digits .now)) (c .digit-bits .result) (c .digit-bits .ensures) (c .before .before .before .before .before .before .before .before .pre .0))
 
--- src/write.rt:47:9
-sign-extend-requires : tie.Need-sign-extend-requires
-sign-extend-requires c κs = search needs
-
--- src/write.rt:54:5
 write-node-requires : tie.Need-write-node-requires
-write-node-requires c κs = number-fine (c .before .before .before .before .before .before .before .before .before .before .args .scan) _ (λ n. bits (bitsOf (c .before .before .before .before .before .before .before .before .before .before .args .radix) * length (c .before .before .before .before .before .before .before .before .before .before .args .digits .now)) (extended (bitsOf (c .before .before .before .before .before .before .before .before .before .before .args .radix) * length (c .before .before .before .before .before .before .before .before .before .before .args .digits .now)) n)) (c .before .before .before .before .before .before .before .before .before .before .args .nodes .now) (c .before .before .before .before .before .before .before .before .before .before .args .stack .now) (c .before .before .before .before .before .before .before .before .before .before .pre .1) _ (sym (c .before .before .before .before .before .before .parse .ensures) ∙ c .before .before .before .before .found .given .1) _ (bits-words (bitsOf (c .before .before .before .before .before .before .before .before .before .before .args .radix) * length (c .before .before .before .before .before .before .before .before .before .before .args .digits .now)) _ _ _ (ap (λ (b : ℕ). b * length (c .before .before .before .before .before .before .before .before .before .before .args .digits .now)) (c .before .before .digit-bits .ensures)) (c .before .sign-extend .ensures)) refl
+write-node-requires c κs = let a = c .before .before .before .before .before .before .before .before .before .before .args in number-fine (a .scan) _ (λ n. bits (bitsOf (a .radix) * length (a .digits .now)) (extended (bitsOf (a .radix) * length (a .digits .now)) n)) (a .nodes .now) (a .stack .now) (c .before .before .before .before .before .before .before .before .before .before .pre .1) _ (sym (c .before .before .before .before .before .before .parse .ensures) ∙ c .before .before .before .before .found .given .1) _ (bits-words (bitsOf (a .radix) * length (a .digits .now)) _ _ _ (ap (λ (b : ℕ). b * length (a .digits .now)) (c .before .before .digit-bits .ensures)) (c .before .sign-extend .ensures)) refl
 
--- src/write.rt:38:1
-same-length : tie.Need-same-length
-same-length c = search needs
-
--- src/write.rt:38:1
 returns-2 : tie.Need-returns-2
-returns-2 c = number-left (c .before .before .before .before .before .before .before .before .before .before .before .before .before .args .scan) _ (λ n. bits (bitsOf (c .before .before .before .before .before .before .before .before .before .before .before .before .before .args .radix) * length (c .before .before .before .before .before .before .before .before .before .before .before .before .before .args .digits .now)) (extended (bitsOf (c .before .before .before .before .before .before .before .before .before .before .before .before .before .args .radix) * length (c .before .before .before .before .before .before .before .before .before .before .before .before .before .args .digits .now)) n)) (c .before .before .before .before .before .before .before .before .before .before .before .before .before .args .nodes .now) (c .before .before .before .before .before .before .before .before .before .before .before .before .before .args .stack .now) (c .before .before .before .before .before .before .before .before .before .before .before .before .before .pre .1) _ (sym (c .before .before .before .before .before .before .before .before .before .parse .ensures) ∙ c .before .before .before .before .before .before .before .found .given .1) _ (bits-words (bitsOf (c .before .before .before .before .before .before .before .before .before .before .before .before .before .args .radix) * length (c .before .before .before .before .before .before .before .before .before .before .before .before .before .args .digits .now)) _ _ _ (ap (λ (b : ℕ). b * length (c .before .before .before .before .before .before .before .before .before .before .before .before .before .args .digits .now)) (c .before .before .before .before .before .digit-bits .ensures)) (c .before .before .before .before .sign-extend .ensures)) refl _ _ (c .before .before .write-node .ensures)
+returns-2 c = let a = c .before .before .before .before .before .before .before .before .before .before .before .before .before .args in number-left (a .scan) _ (λ n. bits (bitsOf (a .radix) * length (a .digits .now)) (extended (bitsOf (a .radix) * length (a .digits .now)) n)) (a .nodes .now) (a .stack .now) (c .before .before .before .before .before .before .before .before .before .before .before .before .before .pre .1) _ (sym (c .before .before .before .before .before .before .before .before .before .parse .ensures) ∙ c .before .before .before .before .before .before .before .found .given .1) _ (bits-words (bitsOf (a .radix) * length (a .digits .now)) _ _ _ (ap (λ (b : ℕ). b * length (a .digits .now)) (c .before .before .before .before .before .digit-bits .ensures)) (c .before .before .before .before .sign-extend .ensures)) refl _ _ (c .before .before .write-node .ensures)
 
 pub write-bits-spec : {M : Type 1} → statement M
 write-bits-spec =
     tie.close
     (tie.spec
-    parse-requires
-    enum-known-found
-    enum-told
+    (λ c κs. search needs)
+    (λ c. search needs)
+    (λ c. search needs)
     returns
-    digit-bits-requires
+    (λ c κs. search needs)
     mul-width
-    sign-extend-requires
+    (λ c κs. search needs)
     write-node-requires
-    same-length
+    (λ c. search needs)
     returns-2)

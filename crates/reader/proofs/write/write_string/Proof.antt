@@ -12,37 +12,20 @@ use Rattle.reader.proofs.write.write_string.Lts as lts
 use Rattle.reader.proofs.write.write_node.Reads as write-node-reads
 use Rattle.strings.proofs.write_text.Reads as write-text-reads
 
--- src/write.rt:80:44
 sub-write-text : tie.Need-sub-write-text
-sub-write-text c = tail-starts (c .before .before .before .before .args .scan) _ (quoted (text (c .before .before .before .before .args .inside .now))) (c .before .before .before .before .args .nodes .now) (c .before .before .before .before .args .text .now) (c .before .before .before .before .args .stack .now) (string-right (c .before .before .before .before .args .scan) (c .before .before .before .before .args .inside .now) (c .before .before .before .before .args .nodes .now) (c .before .before .before .before .args .text .now) (c .before .before .before .before .args .stack .now) (c .before .before .before .before .pre)) (c .before .before .before .before .pre)
+sub-write-text c = let a = c .before .before .before .before .args in tail-starts (a .scan) _ (quoted (text (a .inside .now))) (a .nodes .now) (a .text .now) (a .stack .now) (string-right (a .scan) (a .inside .now) (a .nodes .now) (a .text .now) (a .stack .now) (c .before .before .before .before .pre)) (c .before .before .before .before .pre)
 
--- src/write.rt:80:44
 part-write-text-start : tie.Need-part-write-text-start
-part-write-text-start c = tail-starts (c .before .before .before .before .args .scan) _ (quoted (text (c .before .before .before .before .args .inside .now))) (c .before .before .before .before .args .nodes .now) (c .before .before .before .before .args .text .now) (c .before .before .before .before .args .stack .now) (string-right (c .before .before .before .before .args .scan) (c .before .before .before .before .args .inside .now) (c .before .before .before .before .args .nodes .now) (c .before .before .before .before .args .text .now) (c .before .before .before .before .args .stack .now) (c .before .before .before .before .pre)) (c .before .before .before .before .pre)
+part-write-text-start c = let a = c .before .before .before .before .args in tail-starts (a .scan) _ (quoted (text (a .inside .now))) (a .nodes .now) (a .text .now) (a .stack .now) (string-right (a .scan) (a .inside .now) (a .nodes .now) (a .text .now) (a .stack .now) (c .before .before .before .before .pre)) (c .before .before .before .before .pre)
 
--- src/write.rt:80:44
-part-write-text-end : tie.Need-part-write-text-end
-part-write-text-end c = search needs
-
--- src/write.rt:80:9
 write-text-requires : tie.Need-write-text-requires
-write-text-requires c κs = tail-room (c .before .before .before .before .before .args .scan) _ (quoted (text (c .before .before .before .before .before .args .inside .now))) (c .before .before .before .before .before .args .nodes .now) (c .before .before .before .before .before .args .text .now) (c .before .before .before .before .before .args .stack .now) (string-right (c .before .before .before .before .before .args .scan) (c .before .before .before .before .before .args .inside .now) (c .before .before .before .before .before .args .nodes .now) (c .before .before .before .before .before .args .text .now) (c .before .before .before .before .before .args .stack .now) (c .before .before .before .before .before .pre)) (c .before .before .before .before .before .pre)
+write-text-requires c κs = let a = c .before .before .before .before .before .args in tail-room (a .scan) _ (quoted (text (a .inside .now))) (a .nodes .now) (a .text .now) (a .stack .now) (string-right (a .scan) (a .inside .now) (a .nodes .now) (a .text .now) (a .stack .now) (c .before .before .before .before .before .pre)) (c .before .before .before .before .before .pre)
 
--- src/write.rt:87:5
 write-node-requires : tie.Need-write-node-requires
-write-node-requires c κs = text-fine (c .before .before .before .before .before .before .before .before .before .args .scan) _ (quoted (text (c .before .before .before .before .before .before .before .before .before .args .inside .now))) (c .before .before .before .before .before .before .before .before .before .args .nodes .now) (c .before .before .before .before .before .before .before .before .before .args .text .now) (c .before .before .before .before .before .before .before .before .before .args .stack .now) (string-right (c .before .before .before .before .before .before .before .before .before .args .scan) (c .before .before .before .before .before .before .before .before .before .args .inside .now) (c .before .before .before .before .before .before .before .before .before .args .nodes .now) (c .before .before .before .before .before .before .before .before .before .args .text .now) (c .before .before .before .before .before .before .before .before .before .args .stack .now) (c .before .before .before .before .before .before .before .before .before .pre)) (c .before .before .before .before .before .before .before .before .before .pre) _ _ _ (c .before .before .before .write-text .ensures) (ap (λ (n : ℕ). stringWords n (c .before .before .before .before .before .before .before .before .before .args .scan .text)) (c .before .before .before .write-text .ensures .long))
+write-node-requires c κs = let a = c .before .before .before .before .before .before .before .before .before .args in text-fine (a .scan) _ (quoted (text (a .inside .now))) (a .nodes .now) (a .text .now) (a .stack .now) (string-right (a .scan) (a .inside .now) (a .nodes .now) (a .text .now) (a .stack .now) (c .before .before .before .before .before .before .before .before .before .pre)) (c .before .before .before .before .before .before .before .before .before .pre) _ _ _ (c .before .before .before .write-text .ensures) (ap (λ (n : ℕ). stringWords n (a .scan .text)) (c .before .before .before .write-text .ensures .long))
 
--- src/write.rt:75:1
-same-length : tie.Need-same-length
-same-length c = search needs
-
--- src/write.rt:75:1
-same-length-2 : tie.Need-same-length-2
-same-length-2 c = search needs
-
--- src/write.rt:75:1
 returns : tie.Need-returns
-returns c = text-left (c .before .before .before .before .before .before .before .before .before .before .before .before .args .scan) _ (quoted (text (c .before .before .before .before .before .before .before .before .before .before .before .before .args .inside .now))) (c .before .before .before .before .before .before .before .before .before .before .before .before .args .nodes .now) (c .before .before .before .before .before .before .before .before .before .before .before .before .args .text .now) (c .before .before .before .before .before .before .before .before .before .before .before .before .args .stack .now) (string-right (c .before .before .before .before .before .before .before .before .before .before .before .before .args .scan) (c .before .before .before .before .before .before .before .before .before .before .before .before .args .inside .now) (c .before .before .before .before .before .before .before .before .before .before .before .before .args .nodes .now) (c .before .before .before .before .before .before .before .before .before .before .before .before .args .text .now) (c .before .before .before .before .before .before .before .before .before .before .before .before .args .stack .now) (c .before .before .before .before .before .before .before .before .before .before .before .before .pre)) (c .before .before .before .before .before .before .before .before .before .before .before .before .pre) _ _ _ (c .before .before .before .before .before .before .write-text .ensures) (ap (λ (n : ℕ). stringWords n (c .before .before .before .before .before .before .before .before .before .before .before .before .args .scan .text)) (c .before .before .before .before .before .before .write-text .ensures .long)) _ _ (c .before .before .write-node .ensures)
+returns c = let a = c .before .before .before .before .before .before .before .before .before .before .before .before .args in text-left (a .scan) _ (quoted (text (a .inside .now))) (a .nodes .now) (a .text .now) (a .stack .now) (string-right (a .scan) (a .inside .now) (a .nodes .now) (a .text .now) (a .stack .now) (c .before .before .before .before .before .before .before .before .before .before .before .before .pre)) (c .before .before .before .before .before .before .before .before .before .before .before .before .pre) _ _ _ (c .before .before .before .before .before .before .write-text .ensures) (ap (λ (n : ℕ). stringWords n (a .scan .text)) (c .before .before .before .before .before .before .write-text .ensures .long)) _ _ (c .before .before .write-node .ensures)
 
 pub write-string-spec : {M : Type 1} → statement M
 write-string-spec =
@@ -50,9 +33,9 @@ write-string-spec =
     (tie.spec
     sub-write-text
     part-write-text-start
-    part-write-text-end
+    (λ c. search needs)
     write-text-requires
     write-node-requires
-    same-length
-    same-length-2
+    (λ c. search needs)
+    (λ c. search needs)
     returns)

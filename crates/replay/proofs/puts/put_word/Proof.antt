@@ -15,45 +15,8 @@ Inv-loop word out start bytes₀ rest₀ at₀ bytes rest at = (at ≤ 8) × (le
 abbrev μ-loop : tie.MeasureT-loop
 μ-loop word out start bytes₀ rest₀ at₀ bytes rest at = at
 
--- src/puts.rt:76:5
-loop-holds : tie.Need-loop-holds Inv-loop μ-loop
-loop-holds c = search needs
-
--- src/puts.rt:77:9
-sub-at : tie.Need-sub-at Inv-loop μ-loop
-sub-at c = search needs
-
--- src/puts.rt:78:21
-cast-bytes : tie.Need-cast-bytes Inv-loop μ-loop
-cast-bytes c = search needs
-
--- src/puts.rt:78:9
-array-write-bytes : tie.Need-array-write-bytes Inv-loop μ-loop
-array-write-bytes c = search needs
-
--- src/puts.rt:76:5
-loop-less : tie.Need-loop-less Inv-loop μ-loop
-loop-less c = search needs
-
--- src/puts.rt:76:5
 loop-again : tie.Need-loop-again Inv-loop μ-loop
 loop-again c = (omega arith, simp length-set (c .before .loop .inv .1))
-
--- src/puts.rt:81:13
-slice-aggregate-put-hex : tie.Need-slice-aggregate-put-hex Inv-loop μ-loop
-slice-aggregate-put-hex c = search needs
-
--- src/puts.rt:81:5
-put-hex-requires : tie.Need-put-hex-requires Inv-loop μ-loop
-put-hex-requires c κs = search needs
-
--- src/puts.rt:70:1
-same-length : tie.Need-same-length Inv-loop μ-loop
-same-length c = search needs
-
--- src/puts.rt:70:1
-returns : tie.Need-returns Inv-loop μ-loop
-returns c = search needs
 
 pub put-word-spec : {M : Type 1} → statement M
 put-word-spec =
@@ -61,13 +24,13 @@ put-word-spec =
     (tie.spec
     Inv-loop
     μ-loop
-    loop-holds
-    sub-at
-    cast-bytes
-    array-write-bytes
-    loop-less
+    (λ c. search needs)
+    (λ c. search needs)
+    (λ c. search needs)
+    (λ c. search needs)
+    (λ c. search needs)
     loop-again
-    slice-aggregate-put-hex
-    put-hex-requires
-    same-length
-    returns)
+    (λ c. search needs)
+    (λ c κs. search needs)
+    (λ c. search needs)
+    (λ c. search needs))

@@ -15,64 +15,20 @@ Inv-loop parts out₀ count₀ at₀ out count at = (count ≤ length out₀) ×
 abbrev μ-loop : tie.MeasureT-loop
 μ-loop parts out₀ count₀ at₀ out count at = length parts - at
 
--- src/fields.rt:117:5
-loop-holds : tie.Need-loop-holds Inv-loop μ-loop
-loop-holds c = search needs
-
--- src/fields.rt:118:13
-field-end-requires : tie.Need-field-end-requires Inv-loop μ-loop
-field-end-requires c κs = search needs
-
--- src/fields.rt:119:26
-sub-put-part : tie.Need-sub-put-part Inv-loop μ-loop
-sub-put-part c = search needs
-
--- src/fields.rt:119:26
-part-put-part-start : tie.Need-part-put-part-start Inv-loop μ-loop
-part-put-part-start c = search needs
-
--- src/fields.rt:119:26
-part-put-part-end : tie.Need-part-put-part-end Inv-loop μ-loop
-part-put-part-end c = search needs
-
--- src/fields.rt:119:9
-put-part-requires : tie.Need-put-part-requires Inv-loop μ-loop
-put-part-requires c κs = search needs
-
--- src/fields.rt:120:14
-add-at : tie.Need-add-at Inv-loop μ-loop
-add-at c = search needs
-
--- src/fields.rt:117:5
-loop-less : tie.Need-loop-less Inv-loop μ-loop
-loop-less c = search needs
-
--- src/fields.rt:117:5
-loop-again : tie.Need-loop-again Inv-loop μ-loop
-loop-again c = search needs
-
--- src/fields.rt:112:1
-same-length : tie.Need-same-length Inv-loop μ-loop
-same-length c = search needs
-
--- src/fields.rt:112:1
-returns : tie.Need-returns Inv-loop μ-loop
-returns c = search needs
-
 pub put-parts-spec : {M : Type 1} → statement M
 put-parts-spec =
     tie.close
     (tie.spec
     Inv-loop
     μ-loop
-    loop-holds
-    field-end-requires
-    sub-put-part
-    part-put-part-start
-    part-put-part-end
-    put-part-requires
-    add-at
-    loop-less
-    loop-again
-    same-length
-    returns)
+    (λ c. search needs)
+    (λ c κs. search needs)
+    (λ c. search needs)
+    (λ c. search needs)
+    (λ c. search needs)
+    (λ c κs. search needs)
+    (λ c. search needs)
+    (λ c. search needs)
+    (λ c. search needs)
+    (λ c. search needs)
+    (λ c. search needs))

@@ -16,64 +16,20 @@ Inv-loop words line₀ start end₀ at₀ line end at = (end ≤ length line₀)
 abbrev μ-loop : tie.MeasureT-loop
 μ-loop words line₀ start end₀ at₀ line end at = length words - at
 
--- src/shows.rt:40:5
-loop-holds : tie.Need-loop-holds Inv-loop μ-loop
-loop-holds c = search needs
-
--- src/shows.rt:41:13
-room-requires : tie.Need-room-requires Inv-loop μ-loop
-room-requires c κs = search needs
-
--- src/shows.rt:42:13
-put-parting-requires : tie.Need-put-parting-requires Inv-loop μ-loop
-put-parting-requires c κs = search needs
-
--- src/shows.rt:43:26
-mul-put-digits : tie.Need-mul-put-digits Inv-loop μ-loop
-mul-put-digits c = search needs
-
--- src/shows.rt:43:26
-shared-slice-read-put-digits : tie.Need-shared-slice-read-put-digits Inv-loop μ-loop
-shared-slice-read-put-digits c = search needs
-
--- src/shows.rt:43:9
-put-digits-requires : tie.Need-put-digits-requires Inv-loop μ-loop
-put-digits-requires c κs = search needs
-
--- src/shows.rt:44:9
-add-at : tie.Need-add-at Inv-loop μ-loop
-add-at c = search needs
-
--- src/shows.rt:40:5
-loop-less : tie.Need-loop-less Inv-loop μ-loop
-loop-less c = search needs
-
--- src/shows.rt:40:5
-loop-again : tie.Need-loop-again Inv-loop μ-loop
-loop-again c = search needs
-
--- src/shows.rt:34:1
-same-length : tie.Need-same-length Inv-loop μ-loop
-same-length c = search needs
-
--- src/shows.rt:34:1
-returns : tie.Need-returns Inv-loop μ-loop
-returns c = search needs
-
 pub put-words-spec : {M : Type 1} → statement M
 put-words-spec =
     tie.close
     (tie.spec
     Inv-loop
     μ-loop
-    loop-holds
-    room-requires
-    put-parting-requires
-    mul-put-digits
-    shared-slice-read-put-digits
-    put-digits-requires
-    add-at
-    loop-less
-    loop-again
-    same-length
-    returns)
+    (λ c. search needs)
+    (λ c κs. search needs)
+    (λ c κs. search needs)
+    (λ c. search needs)
+    (λ c. search needs)
+    (λ c κs. search needs)
+    (λ c. search needs)
+    (λ c. search needs)
+    (λ c. search needs)
+    (λ c. search needs)
+    (λ c. search needs))

@@ -13,35 +13,15 @@ Inv-loop s p i₀ i = Sofar s p i
 abbrev μ-loop : tie.MeasureT-loop
 μ-loop s p i₀ i = length s - i
 
--- src/ends.rt:18:5
 loop-holds : tie.Need-loop-holds Inv-loop μ-loop
 loop-holds c = search (sofar-start)
 
--- src/ends.rt:19:12
-shared-slice-read-if1 : tie.Need-shared-slice-read-if1 Inv-loop μ-loop
-shared-slice-read-if1 c = search needs
-
--- src/ends.rt:20:20
-add-result : tie.Need-add-result Inv-loop μ-loop
-add-result c = search needs
-
--- src/ends.rt:20:13
 returns : tie.Need-returns Inv-loop μ-loop
 returns c = search (sofar-last)
 
--- src/ends.rt:22:9
-add-i : tie.Need-add-i Inv-loop μ-loop
-add-i c = search needs
-
--- src/ends.rt:18:5
-loop-less : tie.Need-loop-less Inv-loop μ-loop
-loop-less c = search needs
-
--- src/ends.rt:18:5
 loop-again : tie.Need-loop-again Inv-loop μ-loop
 loop-again c = search (sofar-next)
 
--- src/ends.rt:13:1
 returns-2 : tie.Need-returns-2 Inv-loop μ-loop
 returns-2 c = search (sofar-end)
 
@@ -52,10 +32,10 @@ after-spec =
     Inv-loop
     μ-loop
     loop-holds
-    shared-slice-read-if1
-    add-result
+    (λ c. search needs)
+    (λ c. search needs)
     returns
-    add-i
-    loop-less
+    (λ c. search needs)
+    (λ c. search needs)
     loop-again
     returns-2)

@@ -16,47 +16,21 @@ Inv-loop s x from lo₀ hi₀ lo hi = Halving s x from lo hi
 abbrev μ-loop : tie.MeasureT-loop
 μ-loop s x from lo₀ hi₀ lo hi = hi - lo
 
--- src/ends.rt:65:5
 loop-holds : tie.Need-loop-holds Inv-loop μ-loop
 loop-holds c = search (halving-start)
 
--- src/ends.rt:66:36
-sub-begin : tie.Need-sub-begin Inv-loop μ-loop
-sub-begin c = search needs
-
--- src/ends.rt:66:30
-add-begin : tie.Need-add-begin Inv-loop μ-loop
-add-begin c = search needs
-
--- src/ends.rt:66:13
-begin-requires : tie.Need-begin-requires Inv-loop μ-loop
-begin-requires c κs = search needs
-
--- src/ends.rt:67:12
-below-requires : tie.Need-below-requires Inv-loop μ-loop
-below-requires c κs = search needs
-
--- src/ends.rt:68:13
-after-requires : tie.Need-after-requires Inv-loop μ-loop
-after-requires c κs = search needs
-
--- src/ends.rt:65:5
 loop-less : tie.Need-loop-less Inv-loop μ-loop
 loop-less c = falls-up (c .before .before .before .before .before .before .before .args .s .now) _ _ _ _ _ (c .before .before .before .before .before .loop .inv) (c .before .before .before .before .loop-test .taken) (c .before .before .before .begin .ensures) _ _ _ (c .after .ensures) refl refl
 
--- src/ends.rt:65:5
 loop-again : tie.Need-loop-again Inv-loop μ-loop
 loop-again c = halving-up (c .before .before .before .before .before .before .before .args .s .now) _ _ _ _ _ (c .before .before .before .before .before .loop .inv) (c .before .before .before .before .loop-test .taken) (c .before .before .before .begin .ensures) _ _ _ _ (c .before .before .below .ensures) (c .before .if1 .taken) (c .after .ensures) refl refl
 
--- src/ends.rt:65:5
 loop-less-2 : tie.Need-loop-less-2 Inv-loop μ-loop
 loop-less-2 c = falls-down (c .before .before .before .before .before .before .args .s .now) _ _ _ _ _ (c .before .before .before .before .loop .inv) (c .before .before .before .loop-test .taken) (c .before .before .begin .ensures) _ _ refl refl
 
--- src/ends.rt:65:5
 loop-again-2 : tie.Need-loop-again-2 Inv-loop μ-loop
 loop-again-2 c = halving-down (c .before .before .before .before .before .before .args .s .now) _ _ _ _ _ (c .before .before .before .before .loop .inv) (c .before .before .before .loop-test .taken) (c .before .before .begin .ensures) _ _ _ (c .before .below .ensures) (c .if1 .left) refl refl
 
--- src/ends.rt:59:1
 returns : tie.Need-returns Inv-loop μ-loop
 returns c = search (halving-end)
 
@@ -67,11 +41,11 @@ lower-spec =
     Inv-loop
     μ-loop
     loop-holds
-    sub-begin
-    add-begin
-    begin-requires
-    below-requires
-    after-requires
+    (λ c. search needs)
+    (λ c. search needs)
+    (λ c κs. search needs)
+    (λ c κs. search needs)
+    (λ c κs. search needs)
     loop-less
     loop-again
     loop-less-2

@@ -19,35 +19,18 @@ Inv-loop index₀ at n p i₀ carried₀ index i carried = (length index ≡ len
 abbrev μ-loop : tie.MeasureT-loop
 μ-loop index₀ at n p i₀ carried₀ index i carried = suc n - i
 
--- src/index.rt:48:5
 loop-holds : tie.Need-loop-holds Inv-loop μ-loop
 loop-holds c = (refl, shifting-start _ _ _ _ (c .before .pre))
 
--- src/index.rt:49:13
-place-requires : tie.Need-place-requires Inv-loop μ-loop
-place-requires c κs = search needs
-
--- src/index.rt:50:9
-set-place-requires : tie.Need-set-place-requires Inv-loop μ-loop
-set-place-requires c κs = search needs
-
--- src/index.rt:52:9
 add-i : tie.Need-add-i Inv-loop μ-loop
 add-i c = record { fits = omega (arith, pairs-long (c .before .before .before .before .before .before .before .before .before .args .index .now)) }
 
--- src/index.rt:48:5
-loop-less : tie.Need-loop-less Inv-loop μ-loop
-loop-less c = search needs
-
--- src/index.rt:48:5
 loop-again : tie.Need-loop-again Inv-loop μ-loop
 loop-again c = (c .before .before .set-place .kept .0 ∙ c .before .before .before .before .before .before .before .loop .inv .0, shifting-next _ _ _ _ _ _ _ _ _ (c .before .before .before .before .before .before .before .loop .inv .1) (c .before .before .before .before .before .before .loop-test .taken) (c .before .before .before .before .place .ensures .same) (c .before .before .before .before .place .ensures .small) (c .before .before .set-place .ensures))
 
--- src/index.rt:42:1
 same-length : tie.Need-same-length Inv-loop μ-loop
 same-length c = c .before .loop .inv .0
 
--- src/index.rt:42:1
 returns : tie.Need-returns Inv-loop μ-loop
 returns c = shifting-end _ _ _ _ _ _ _ (c .before .loop .inv .1) (c .loop-test .left)
 
@@ -58,10 +41,10 @@ insert-spec =
     Inv-loop
     μ-loop
     loop-holds
-    place-requires
-    set-place-requires
+    (λ c κs. search needs)
+    (λ c κs. search needs)
     add-i
-    loop-less
+    (λ c. search needs)
     loop-again
     same-length
     returns)

@@ -15,39 +15,27 @@ Inv-loop s index₀ last n₀ p₀ index n p = Listing last s index₀ index n p
 abbrev μ-loop : tie.MeasureT-loop
 μ-loop s index₀ last n₀ p₀ index n p = length s - p
 
--- src/index.rt:84:5
 loop-holds : tie.Need-loop-holds Inv-loop μ-loop
 loop-holds c = search (listing-start)
 
--- src/index.rt:86:13
 same-length : tie.Need-same-length Inv-loop μ-loop
 same-length c = c .before .before .loop .inv .long
 
--- src/index.rt:86:13
 returns : tie.Need-returns Inv-loop μ-loop
 returns c = search (listing-full)
 
--- src/index.rt:88:9
 settle-requires : tie.Need-settle-requires Inv-loop μ-loop
 settle-requires c κs = listing-fits _ _ _ _ _ _ (c .before .before .before .loop .inv) (c .before .before .loop-test .taken) (c .before .if1 .left)
 
--- src/index.rt:89:9
-after-requires : tie.Need-after-requires Inv-loop μ-loop
-after-requires c κs = search needs
-
--- src/index.rt:84:5
 loop-less : tie.Need-loop-less Inv-loop μ-loop
 loop-less c = listing-falls _ _ _ _ _ _ _ _ _ (c .before .before .before .before .before .before .before .loop .inv) (c .before .before .before .before .before .before .loop-test .taken) (c .before .before .before .settle .ensures) (c .before .before .before .settle .kept .1 .0) (c .before .before .before .before .before .if1 .left) (c .after .ensures)
 
--- src/index.rt:84:5
 loop-again : tie.Need-loop-again Inv-loop μ-loop
 loop-again c = listing-next _ _ _ _ _ _ _ _ _ (c .before .before .before .before .before .before .before .loop .inv) (c .before .before .before .before .before .before .loop-test .taken) (c .before .before .before .settle .ensures) (c .before .before .before .settle .kept .1 .0) (c .before .before .before .before .before .if1 .left) (c .after .ensures)
 
--- src/index.rt:78:1
 same-length-2 : tie.Need-same-length-2 Inv-loop μ-loop
 same-length-2 c = c .before .loop .inv .long
 
--- src/index.rt:78:1
 returns-2 : tie.Need-returns-2 Inv-loop μ-loop
 returns-2 c = search (listing-end)
 
@@ -61,7 +49,7 @@ list-spec =
     same-length
     returns
     settle-requires
-    after-requires
+    (λ c κs. search needs)
     loop-less
     loop-again
     same-length-2

@@ -5,21 +5,14 @@ use Rattle.runs.proofs.keys.mark.Tie as tie
 use Rattle.runs.proofs.keys.mark.Reads as reads
 use Rattle.runs.proofs.keys.mark.Lts as lts
 
--- src/keys.rt:15:9
 returns : tie.Need-returns
 returns c = search (mark-past)
 
--- src/keys.rt:17:13
-shared-slice-read-b : tie.Need-shared-slice-read-b
-shared-slice-read-b c = search needs
-
--- src/keys.rt:19:9
 returns-2 : tie.Need-returns-2
 returns-2 c = search (mark-stopped)
 
--- src/keys.rt:11:1
 returns-3 : tie.Need-returns-3
 returns-3 c = search (mark-other)
 
 pub mark-spec : {M : Type 1} → statement M
-mark-spec = tie.close (tie.spec returns shared-slice-read-b returns-2 returns-3)
+mark-spec = tie.close (tie.spec returns (λ c. search needs) returns-2 returns-3)

@@ -9,62 +9,24 @@ use Rattle.script.proofs.datatype.put_bare.Lts as lts
 use Rattle.lent.proofs.put.Reads as put-reads
 use Rattle.parts.proofs.put_joined.Reads as put-joined-reads
 
--- src/datatype.rt:39:19
-slice-aggregate-put : tie.Need-slice-aggregate-put
-slice-aggregate-put c = search needs
-
--- src/datatype.rt:39:9
-put-requires : tie.Need-put-requires
-put-requires c κs = search needs
-
--- src/datatype.rt:40:9
-put-requires-2 : tie.Need-put-requires-2
-put-requires-2 c κs = search needs
-
--- src/datatype.rt:41:21
-slice-aggregate-put-2 : tie.Need-slice-aggregate-put-2
-slice-aggregate-put-2 c = search needs
-
--- src/datatype.rt:41:9
-put-requires-3 : tie.Need-put-requires-3
-put-requires-3 c κs = search needs
-
--- src/datatype.rt:42:27
-slice-aggregate-put-joined : tie.Need-slice-aggregate-put-joined
-slice-aggregate-put-joined c = search needs
-
--- src/datatype.rt:42:9
 put-joined-requires : tie.Need-put-joined-requires
 put-joined-requires c κs = c .before .before .before .before .before .before .before .before .before .before .before .before .before .before .before .before .before .before .before .before .pre
 
--- src/datatype.rt:43:9
-slice-aggregate-put-3 : tie.Need-slice-aggregate-put-3
-slice-aggregate-put-3 c = search needs
-
--- src/datatype.rt:43:5
-put-requires-4 : tie.Need-put-requires-4
-put-requires-4 c κs = search needs
-
--- src/datatype.rt:35:1
-same-length : tie.Need-same-length
-same-length c = search needs
-
--- src/datatype.rt:35:1
 returns : tie.Need-returns
-returns c = offers-as (bare-line (c .before .before .before .before .before .before .before .before .before .before .before .before .before .before .before .before .before .before .before .before .before .before .before .before .before .before .before .before .args .name .now) (parts (c .before .before .before .before .before .before .before .before .before .before .before .before .before .before .before .before .before .before .before .before .before .before .before .before .before .before .before .before .args .constructors .now) (c .before .before .before .before .before .before .before .before .before .before .before .before .before .before .before .before .before .before .before .before .before .before .before .before .before .before .before .before .args .ends .now))) (offers-then (c .before .before .before .before .before .before .before .before .before .before .before .before .before .before .before .before .before .before .before .before .before .put .ensures) (offers-then (c .before .before .before .before .before .before .before .before .before .before .before .before .before .before .before .before .before .put2 .ensures) (offers-then (c .before .before .before .before .before .before .before .before .before .before .before .before .put3 .ensures) (offers-then (c .before .before .before .before .before .before .before .put-joined .ensures) (c .before .before .put4 .ensures)))))
+returns c = let a = c .before .before .before .before .before .before .before .before .before .before .before .before .before .before .before .before .before .before .before .before .before .before .before .before .before .before .before .before .args in offers-as (bare-line (a .name .now) (parts (a .constructors .now) (a .ends .now))) (offers-then (c .before .before .before .before .before .before .before .before .before .before .before .before .before .before .before .before .before .before .before .before .before .put .ensures) (offers-then (c .before .before .before .before .before .before .before .before .before .before .before .before .before .before .before .before .before .put2 .ensures) (offers-then (c .before .before .before .before .before .before .before .before .before .before .before .before .put3 .ensures) (offers-then (c .before .before .before .before .before .before .before .put-joined .ensures) (c .before .before .put4 .ensures)))))
 
 pub put-bare-spec : {M : Type 1} → statement M
 put-bare-spec =
     tie.close
     (tie.spec
-    slice-aggregate-put
-    put-requires
-    put-requires-2
-    slice-aggregate-put-2
-    put-requires-3
-    slice-aggregate-put-joined
+    (λ c. search needs)
+    (λ c κs. search needs)
+    (λ c κs. search needs)
+    (λ c. search needs)
+    (λ c κs. search needs)
+    (λ c. search needs)
     put-joined-requires
-    slice-aggregate-put-3
-    put-requires-4
-    same-length
+    (λ c. search needs)
+    (λ c κs. search needs)
+    (λ c. search needs)
     returns)

@@ -10,21 +10,11 @@ use Rattle.script.proofs.fixed.write_line.Reads as reads
 use Rattle.script.proofs.fixed.write_line.Lts as lts
 use Rattle.lent.proofs.put.Reads as put-reads
 
--- src/fixed.rt:16:9
 returns : tie.Need-returns
 returns c = leaves-short OutRoom _ _ _ (c .if1 .taken) refl
 
--- src/fixed.rt:18:5
-put-requires : tie.Need-put-requires
-put-requires c κs = search needs
-
--- src/fixed.rt:11:1
-same-length : tie.Need-same-length
-same-length c = search needs
-
--- src/fixed.rt:11:1
 returns-2 : tie.Need-returns-2
 returns-2 c = leaves-text OutRoom _ _ _ _ (omega (arith, c .before .before .before .before .if1 .left)) refl (offers-front (c .before .before .put .ensures) (omega (arith, c .before .before .before .before .if1 .left)) .holds)
 
 pub write-line-spec : {M : Type 1} → statement M
-write-line-spec = tie.close (tie.spec returns put-requires same-length returns-2)
+write-line-spec = tie.close (tie.spec returns (λ c κs. search needs) (λ c. search needs) returns-2)

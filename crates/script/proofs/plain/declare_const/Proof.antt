@@ -8,22 +8,9 @@ use Rattle.script.proofs.plain.declare_const.Reads as reads
 use Rattle.script.proofs.plain.declare_const.Lts as lts
 use Rattle.script.proofs.plain.write_two.Reads as write-two-reads
 
--- src/plain.rt:75:15
-slice-aggregate-write-two : tie.Need-slice-aggregate-write-two
-slice-aggregate-write-two c = search needs
-
--- src/plain.rt:75:5
-write-two-requires : tie.Need-write-two-requires
-write-two-requires c κs = search needs
-
--- src/plain.rt:72:1
-same-length : tie.Need-same-length
-same-length c = search needs
-
--- src/plain.rt:72:1
 returns : tie.Need-returns
 returns c = scripted-as _ true _ (declare-const-line _ _) (c .before .before .write-two .ensures)
 
 pub declare-const-spec : {M : Type 1} → statement M
 declare-const-spec =
-    tie.close (tie.spec slice-aggregate-write-two write-two-requires same-length returns)
+    tie.close (tie.spec (λ c. search needs) (λ c κs. search needs) (λ c. search needs) returns)

@@ -8,22 +8,9 @@ use Rattle.script.proofs.plain.set_logic.Reads as reads
 use Rattle.script.proofs.plain.set_logic.Lts as lts
 use Rattle.script.proofs.plain.write_one.Reads as write-one-reads
 
--- src/plain.rt:36:15
-slice-aggregate-write-one : tie.Need-slice-aggregate-write-one
-slice-aggregate-write-one c = search needs
-
--- src/plain.rt:36:5
-write-one-requires : tie.Need-write-one-requires
-write-one-requires c κs = search needs
-
--- src/plain.rt:33:1
-same-length : tie.Need-same-length
-same-length c = search needs
-
--- src/plain.rt:33:1
 returns : tie.Need-returns
 returns c = scripted-as _ true _ (set-logic-line _) (c .before .before .write-one .ensures)
 
 pub set-logic-spec : {M : Type 1} → statement M
 set-logic-spec =
-    tie.close (tie.spec slice-aggregate-write-one write-one-requires same-length returns)
+    tie.close (tie.spec (λ c. search needs) (λ c κs. search needs) (λ c. search needs) returns)

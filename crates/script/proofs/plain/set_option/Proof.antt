@@ -8,22 +8,9 @@ use Rattle.script.proofs.plain.set_option.Reads as reads
 use Rattle.script.proofs.plain.set_option.Lts as lts
 use Rattle.script.proofs.plain.write_two.Reads as write-two-reads
 
--- src/plain.rt:69:15
-slice-aggregate-write-two : tie.Need-slice-aggregate-write-two
-slice-aggregate-write-two c = search needs
-
--- src/plain.rt:69:5
-write-two-requires : tie.Need-write-two-requires
-write-two-requires c κs = search needs
-
--- src/plain.rt:66:1
-same-length : tie.Need-same-length
-same-length c = search needs
-
--- src/plain.rt:66:1
 returns : tie.Need-returns
 returns c = scripted-as _ true _ (set-option-line _ _) (c .before .before .write-two .ensures)
 
 pub set-option-spec : {M : Type 1} → statement M
 set-option-spec =
-    tie.close (tie.spec slice-aggregate-write-two write-two-requires same-length returns)
+    tie.close (tie.spec (λ c. search needs) (λ c κs. search needs) (λ c. search needs) returns)

@@ -8,55 +8,21 @@ use Rattle.shapes.proofs.look.numeral_at.Reads as reads
 use Rattle.shapes.proofs.look.numeral_at.Lts as lts
 use Rattle.arena.proofs.node_at.Reads as node-at-reads
 
--- src/look.rt:48:9
-node-at-requires : tie.Need-node-at-requires
-node-at-requires c κs = search needs
-
--- src/look.rt:54:14
-enum-told : tie.Need-enum-told
-enum-told c = search needs
-
--- src/look.rt:55:25
-enum-known-node : tie.Need-enum-known-node
-enum-known-node c = search needs
-
--- src/look.rt:59:14
-enum-told-2 : tie.Need-enum-told-2
-enum-told-2 c = search needs
-
--- src/look.rt:63:14
-enum-told-3 : tie.Need-enum-told-3
-enum-told-3 c = search needs
-
--- src/look.rt:67:14
-enum-told-4 : tie.Need-enum-told-4
-enum-told-4 c = search needs
-
--- src/look.rt:68:25
-enum-told-5 : tie.Need-enum-told-5
-enum-told-5 c = search needs
-
--- src/look.rt:45:1
 returns : tie.Need-returns
 returns c = no-numeral _ _ _ (sym (c .before .before .node-at .ensures) ∙ c .enum-told .given .1) (λ e. omega arith)
 
--- src/look.rt:45:1
 returns-2 : tie.Need-returns-2
 returns-2 c = numeral-there _ _ _ _ (sym (c .before .before .before .node-at .ensures) ∙ c .before .node .given .1)
 
--- src/look.rt:45:1
 returns-3 : tie.Need-returns-3
 returns-3 c = no-numeral _ _ _ (sym (c .before .before .node-at .ensures) ∙ c .enum-told2 .given .1) (λ e. omega arith)
 
--- src/look.rt:45:1
 returns-4 : tie.Need-returns-4
 returns-4 c = no-numeral _ _ _ (sym (c .before .before .node-at .ensures) ∙ c .enum-told3 .given .1) (λ e. omega arith)
 
--- src/look.rt:45:1
 returns-5 : tie.Need-returns-5
 returns-5 c = no-numeral _ _ _ (sym (c .before .before .node-at .ensures) ∙ c .enum-told4 .given .1) (λ e. omega arith)
 
--- src/look.rt:45:1
 returns-6 : tie.Need-returns-6
 returns-6 c = no-numeral _ _ _ (sym (c .before .before .node-at .ensures) ∙ c .enum-told5 .given .1) (λ e. omega arith)
 
@@ -64,13 +30,13 @@ pub numeral-at-spec : {M : Type 1} → statement M
 numeral-at-spec =
     tie.close
     (tie.spec
-    node-at-requires
-    enum-told
-    enum-known-node
-    enum-told-2
-    enum-told-3
-    enum-told-4
-    enum-told-5
+    (λ c κs. search needs)
+    (λ c. search needs)
+    (λ c. search needs)
+    (λ c. search needs)
+    (λ c. search needs)
+    (λ c. search needs)
+    (λ c. search needs)
     returns
     returns-2
     returns-3

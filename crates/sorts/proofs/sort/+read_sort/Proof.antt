@@ -24,7 +24,6 @@ abbrev read-sort-below : ℕ → In 4 read-sort-kinds.ps
 read-sort-below t =
     and 4 read-sort-kinds.ps (falls 4 read-sort-kinds.ps _<_ μ-read-sort t) read-sort.Pre
 
--- src/sort.rt:98:9
 read-sort-returns : (t : ℕ) → read-sort-lts.Need-returns (
   sort-shape-at-reads.Asked,
   sort-shape-at-reads.Learnt,
@@ -37,9 +36,8 @@ read-sort-returns : (t : ℕ) → read-sort-lts.Need-returns (
   row-of-reads.Asked,
   row-of-reads.Learnt,
 ) (read-sort-at t) read-sort.Post
-read-sort-returns t c = sort-nested (c .before .before .before .before .before .args .sorts .now) (c .before .before .before .before .before .args .names .now) (c .before .before .before .before .before .args .nodes .now) (c .before .before .before .before .before .args .text .now) (c .before .before .before .before .before .args .at) (c .before .before .before .before .before .args .allow) (c .if1 .taken)
+read-sort-returns t c = let a = c .before .before .before .before .before .args in sort-nested (a .sorts .now) (a .names .now) (a .nodes .now) (a .text .now) (a .at) (a .allow) (c .if1 .taken)
 
--- src/sort.rt:100:9
 read-sort-sort-shape-at-requires : (t : ℕ) → read-sort-lts.Need-sort-shape-at-requires (
   sort-shape-at-reads.Asked,
   sort-shape-at-reads.Learnt,
@@ -54,7 +52,6 @@ read-sort-sort-shape-at-requires : (t : ℕ) → read-sort-lts.Need-sort-shape-a
 ) (read-sort-at t) read-sort.Post
 read-sort-sort-shape-at-requires t c κs = search needs
 
--- src/sort.rt:102:27
 read-sort-enum-known-shape : (t : ℕ) → read-sort-lts.Need-enum-known-shape (
   sort-shape-at-reads.Asked,
   sort-shape-at-reads.Learnt,
@@ -69,7 +66,6 @@ read-sort-enum-known-shape : (t : ℕ) → read-sort-lts.Need-enum-known-shape (
 ) (read-sort-at t) read-sort.Post
 read-sort-enum-known-shape t c = search needs
 
--- src/sort.rt:102:47
 read-sort-word-at-requires : (t : ℕ) → read-sort-lts.Need-word-at-requires (
   sort-shape-at-reads.Asked,
   sort-shape-at-reads.Learnt,
@@ -84,7 +80,6 @@ read-sort-word-at-requires : (t : ℕ) → read-sort-lts.Need-word-at-requires (
 ) (read-sort-at t) read-sort.Post
 read-sort-word-at-requires t c κs = search needs
 
--- src/sort.rt:103:28
 read-sort-enum-known-shape-2 : (t : ℕ) → read-sort-lts.Need-enum-known-shape-2 (
   sort-shape-at-reads.Asked,
   sort-shape-at-reads.Learnt,
@@ -99,7 +94,6 @@ read-sort-enum-known-shape-2 : (t : ℕ) → read-sort-lts.Need-enum-known-shape
 ) (read-sort-at t) read-sort.Post
 read-sort-enum-known-shape-2 t c = search needs
 
--- src/sort.rt:103:43
 read-sort-sort-width-requires : (t : ℕ) → read-sort-lts.Need-sort-width-requires (
   sort-shape-at-reads.Asked,
   sort-shape-at-reads.Learnt,
@@ -114,7 +108,6 @@ read-sort-sort-width-requires : (t : ℕ) → read-sort-lts.Need-sort-width-requ
 ) (read-sort-at t) read-sort.Post
 read-sort-sort-width-requires t c κs = search needs
 
--- src/sort.rt:104:29
 read-sort-enum-known-shape-3 : (t : ℕ) → read-sort-lts.Need-enum-known-shape-3 (
   sort-shape-at-reads.Asked,
   sort-shape-at-reads.Learnt,
@@ -129,7 +122,6 @@ read-sort-enum-known-shape-3 : (t : ℕ) → read-sort-lts.Need-enum-known-shape
 ) (read-sort-at t) read-sort.Post
 read-sort-enum-known-shape-3 t c = search needs
 
--- src/sort.rt:105:69
 read-sort-sub-read-sort : (t : ℕ) → read-sort-lts.Need-sub-read-sort (
   sort-shape-at-reads.Asked,
   sort-shape-at-reads.Learnt,
@@ -144,7 +136,6 @@ read-sort-sub-read-sort : (t : ℕ) → read-sort-lts.Need-sub-read-sort (
 ) (read-sort-at t) read-sort.Post
 read-sort-sub-read-sort t c = search needs
 
--- src/sort.rt:105:17
 read-sort-read-sort-requires : (t : ℕ) → read-sort-lts.Need-read-sort-requires (
   sort-shape-at-reads.Asked,
   sort-shape-at-reads.Learnt,
@@ -159,7 +150,6 @@ read-sort-read-sort-requires : (t : ℕ) → read-sort-lts.Need-read-sort-requir
 ) (read-sort-at t) read-sort.Post
 read-sort-read-sort-requires t c κs = search needs
 
--- src/sort.rt:107:29
 read-sort-enum-known-below : (t : ℕ) → read-sort-lts.Need-enum-known-below (
   sort-shape-at-reads.Asked,
   sort-shape-at-reads.Learnt,
@@ -174,7 +164,6 @@ read-sort-enum-known-below : (t : ℕ) → read-sort-lts.Need-enum-known-below (
 ) (read-sort-at t) read-sort.Post
 read-sort-enum-known-below t c = search needs
 
--- src/sort.rt:107:37
 read-sort-row-of-requires : (t : ℕ) → read-sort-lts.Need-row-of-requires (
   sort-shape-at-reads.Asked,
   sort-shape-at-reads.Learnt,
@@ -189,7 +178,6 @@ read-sort-row-of-requires : (t : ℕ) → read-sort-lts.Need-row-of-requires (
 ) (read-sort-at t) read-sort.Post
 read-sort-row-of-requires t c κs = search needs
 
--- src/sort.rt:108:33
 read-sort-enum-known-below-2 : (t : ℕ) → read-sort-lts.Need-enum-known-below-2 (
   sort-shape-at-reads.Asked,
   sort-shape-at-reads.Learnt,
@@ -204,7 +192,6 @@ read-sort-enum-known-below-2 : (t : ℕ) → read-sort-lts.Need-enum-known-below
 ) (read-sort-at t) read-sort.Post
 read-sort-enum-known-below-2 t c = search needs
 
--- src/sort.rt:111:26
 read-sort-enum-known-shape-4 : (t : ℕ) → read-sort-lts.Need-enum-known-shape-4 (
   sort-shape-at-reads.Asked,
   sort-shape-at-reads.Learnt,
@@ -219,7 +206,6 @@ read-sort-enum-known-shape-4 : (t : ℕ) → read-sort-lts.Need-enum-known-shape
 ) (read-sort-at t) read-sort.Post
 read-sort-enum-known-shape-4 t c = search needs
 
--- src/sort.rt:112:69
 read-sort-sub-read-sort-2 : (t : ℕ) → read-sort-lts.Need-sub-read-sort-2 (
   sort-shape-at-reads.Asked,
   sort-shape-at-reads.Learnt,
@@ -234,7 +220,6 @@ read-sort-sub-read-sort-2 : (t : ℕ) → read-sort-lts.Need-sub-read-sort-2 (
 ) (read-sort-at t) read-sort.Post
 read-sort-sub-read-sort-2 t c = search needs
 
--- src/sort.rt:112:17
 read-sort-read-sort-requires-2 : (t : ℕ) → read-sort-lts.Need-read-sort-requires-2 (
   sort-shape-at-reads.Asked,
   sort-shape-at-reads.Learnt,
@@ -249,7 +234,6 @@ read-sort-read-sort-requires-2 : (t : ℕ) → read-sort-lts.Need-read-sort-requ
 ) (read-sort-at t) read-sort.Post
 read-sort-read-sort-requires-2 t c κs = search needs
 
--- src/sort.rt:114:29
 read-sort-enum-known-below-3 : (t : ℕ) → read-sort-lts.Need-enum-known-below-3 (
   sort-shape-at-reads.Asked,
   sort-shape-at-reads.Learnt,
@@ -264,7 +248,6 @@ read-sort-enum-known-below-3 : (t : ℕ) → read-sort-lts.Need-enum-known-below
 ) (read-sort-at t) read-sort.Post
 read-sort-enum-known-below-3 t c = search needs
 
--- src/sort.rt:114:37
 read-sort-row-of-requires-2 : (t : ℕ) → read-sort-lts.Need-row-of-requires-2 (
   sort-shape-at-reads.Asked,
   sort-shape-at-reads.Learnt,
@@ -279,7 +262,6 @@ read-sort-row-of-requires-2 : (t : ℕ) → read-sort-lts.Need-row-of-requires-2
 ) (read-sort-at t) read-sort.Post
 read-sort-row-of-requires-2 t c κs = search needs
 
--- src/sort.rt:115:33
 read-sort-enum-known-below-4 : (t : ℕ) → read-sort-lts.Need-enum-known-below-4 (
   sort-shape-at-reads.Asked,
   sort-shape-at-reads.Learnt,
@@ -294,7 +276,6 @@ read-sort-enum-known-below-4 : (t : ℕ) → read-sort-lts.Need-enum-known-below
 ) (read-sort-at t) read-sort.Post
 read-sort-enum-known-below-4 t c = search needs
 
--- src/sort.rt:118:46
 read-sort-enum-told : (t : ℕ) → read-sort-lts.Need-enum-told (
   sort-shape-at-reads.Asked,
   sort-shape-at-reads.Learnt,
@@ -309,7 +290,6 @@ read-sort-enum-told : (t : ℕ) → read-sort-lts.Need-enum-told (
 ) (read-sort-at t) read-sort.Post
 read-sort-enum-told t c = search needs
 
--- src/sort.rt:87:1
 read-sort-returns-2 : (t : ℕ) → read-sort-lts.Need-returns-2 (
   sort-shape-at-reads.Asked,
   sort-shape-at-reads.Learnt,
@@ -322,9 +302,8 @@ read-sort-returns-2 : (t : ℕ) → read-sort-lts.Need-returns-2 (
   row-of-reads.Asked,
   row-of-reads.Learnt,
 ) (read-sort-at t) read-sort.Post
-read-sort-returns-2 t c = sort-word (c .before .before .before .before .before .before .before .before .before .before .args .sorts .now) (c .before .before .before .before .before .before .before .before .before .before .args .names .now) (c .before .before .before .before .before .before .before .before .before .before .args .nodes .now) (c .before .before .before .before .before .before .before .before .before .before .args .text .now) (c .before .before .before .before .before .before .before .before .before .before .args .at) (c .before .before .before .before .before .before .before .before .before .before .args .allow) (c .before .before .before .before .before .if1 .left) (c .before .before .before .before .sort-shape-at .result) (c .before .before .before .before .sort-shape-at .ensures) _ _ (c .before .before .shape .given .1) (c .word-at .result) (c .word-at .ensures)
+read-sort-returns-2 t c = let a = c .before .before .before .before .before .before .before .before .before .before .args in sort-word (a .sorts .now) (a .names .now) (a .nodes .now) (a .text .now) (a .at) (a .allow) (c .before .before .before .before .before .if1 .left) (c .before .before .before .before .sort-shape-at .result) (c .before .before .before .before .sort-shape-at .ensures) _ _ (c .before .before .shape .given .1) (c .word-at .result) (c .word-at .ensures)
 
--- src/sort.rt:87:1
 read-sort-returns-3 : (t : ℕ) → read-sort-lts.Need-returns-3 (
   sort-shape-at-reads.Asked,
   sort-shape-at-reads.Learnt,
@@ -337,9 +316,8 @@ read-sort-returns-3 : (t : ℕ) → read-sort-lts.Need-returns-3 (
   row-of-reads.Asked,
   row-of-reads.Learnt,
 ) (read-sort-at t) read-sort.Post
-read-sort-returns-3 t c = sort-width (c .before .before .before .before .before .before .before .before .before .before .args .sorts .now) (c .before .before .before .before .before .before .before .before .before .before .args .names .now) (c .before .before .before .before .before .before .before .before .before .before .args .nodes .now) (c .before .before .before .before .before .before .before .before .before .before .args .text .now) (c .before .before .before .before .before .before .before .before .before .before .args .at) (c .before .before .before .before .before .before .before .before .before .before .args .allow) (c .before .before .before .before .before .if1 .left) (c .before .before .before .before .sort-shape-at .result) (c .before .before .before .before .sort-shape-at .ensures) _ _ (c .before .before .shape2 .given .1) (c .sort-width .result) (c .sort-width .ensures)
+read-sort-returns-3 t c = let a = c .before .before .before .before .before .before .before .before .before .before .args in sort-width (a .sorts .now) (a .names .now) (a .nodes .now) (a .text .now) (a .at) (a .allow) (c .before .before .before .before .before .if1 .left) (c .before .before .before .before .sort-shape-at .result) (c .before .before .before .before .sort-shape-at .ensures) _ _ (c .before .before .shape2 .given .1) (c .sort-width .result) (c .sort-width .ensures)
 
--- src/sort.rt:87:1
 read-sort-returns-4 : (t : ℕ) → read-sort-lts.Need-returns-4 (
   sort-shape-at-reads.Asked,
   sort-shape-at-reads.Learnt,
@@ -352,9 +330,8 @@ read-sort-returns-4 : (t : ℕ) → read-sort-lts.Need-returns-4 (
   row-of-reads.Asked,
   row-of-reads.Learnt,
 ) (read-sort-at t) read-sort.Post
-read-sort-returns-4 t c = inner-row (c .before .before .before .before .before .before .before .before .before .before .before .before .before .before .args .sorts .now) (c .before .before .before .before .before .before .before .before .before .before .before .before .before .before .args .names .now) (c .before .before .before .before .before .before .before .before .before .before .before .before .before .before .args .nodes .now) (c .before .before .before .before .before .before .before .before .before .before .before .before .before .before .args .text .now) (c .before .before .before .before .before .before .before .before .before .before .before .before .before .before .args .at) (c .before .before .before .before .before .before .before .before .before .before .before .before .before .before .args .allow) (c .before .before .before .before .before .before .before .before .before .if1 .left) (c .before .before .before .before .before .before .before .before .sort-shape-at .result) (c .before .before .before .before .before .before .before .before .sort-shape-at .ensures) optionOf _ (makes-option (c .before .before .before .before .before .before .before .before .before .before .before .before .before .before .args .sorts .now) (c .before .before .before .before .before .before .before .before .before .before .before .before .before .before .args .names .now) (c .before .before .before .before .before .before .before .before .before .before .before .before .before .before .args .nodes .now) (c .before .before .before .before .before .before .before .before .before .before .before .before .before .before .args .text .now) (c .before .before .before .before .before .before .before .before .before .before .before .before .before .before .args .at) (c .before .before .before .before .before .before .before .before .before .before .before .before .before .before .args .allow) (c .before .before .before .before .before .before .before .before .before .if1 .left) (c .before .before .before .before .before .before .before .before .sort-shape-at .result) (c .before .before .before .before .before .before .before .before .sort-shape-at .ensures) _ (c .before .before .before .before .before .before .shape3 .given .1)) _ (c .before .before .before .before .read-sort .ensures) _ (c .before .before .below .given .1) (c .row-of .result) (c .row-of .ensures)
+read-sort-returns-4 t c = let a = c .before .before .before .before .before .before .before .before .before .before .before .before .before .before .args in inner-row (a .sorts .now) (a .names .now) (a .nodes .now) (a .text .now) (a .at) (a .allow) (c .before .before .before .before .before .before .before .before .before .if1 .left) (c .before .before .before .before .before .before .before .before .sort-shape-at .result) (c .before .before .before .before .before .before .before .before .sort-shape-at .ensures) optionOf _ (makes-option (a .sorts .now) (a .names .now) (a .nodes .now) (a .text .now) (a .at) (a .allow) (c .before .before .before .before .before .before .before .before .before .if1 .left) (c .before .before .before .before .before .before .before .before .sort-shape-at .result) (c .before .before .before .before .before .before .before .before .sort-shape-at .ensures) _ (c .before .before .before .before .before .before .shape3 .given .1)) _ (c .before .before .before .before .read-sort .ensures) _ (c .before .before .below .given .1) (c .row-of .result) (c .row-of .ensures)
 
--- src/sort.rt:87:1
 read-sort-returns-5 : (t : ℕ) → read-sort-lts.Need-returns-5 (
   sort-shape-at-reads.Asked,
   sort-shape-at-reads.Learnt,
@@ -367,9 +344,8 @@ read-sort-returns-5 : (t : ℕ) → read-sort-lts.Need-returns-5 (
   row-of-reads.Asked,
   row-of-reads.Learnt,
 ) (read-sort-at t) read-sort.Post
-read-sort-returns-5 t c = inner-refused (c .before .before .before .before .before .before .before .before .before .before .before .before .before .args .sorts .now) (c .before .before .before .before .before .before .before .before .before .before .before .before .before .args .names .now) (c .before .before .before .before .before .before .before .before .before .before .before .before .before .args .nodes .now) (c .before .before .before .before .before .before .before .before .before .before .before .before .before .args .text .now) (c .before .before .before .before .before .before .before .before .before .before .before .before .before .args .at) (c .before .before .before .before .before .before .before .before .before .before .before .before .before .args .allow) (c .before .before .before .before .before .before .before .before .if1 .left) (c .before .before .before .before .before .before .before .sort-shape-at .result) (c .before .before .before .before .before .before .before .sort-shape-at .ensures) optionOf _ (makes-option (c .before .before .before .before .before .before .before .before .before .before .before .before .before .args .sorts .now) (c .before .before .before .before .before .before .before .before .before .before .before .before .before .args .names .now) (c .before .before .before .before .before .before .before .before .before .before .before .before .before .args .nodes .now) (c .before .before .before .before .before .before .before .before .before .before .before .before .before .args .text .now) (c .before .before .before .before .before .before .before .before .before .before .before .before .before .args .at) (c .before .before .before .before .before .before .before .before .before .before .before .before .before .args .allow) (c .before .before .before .before .before .before .before .before .if1 .left) (c .before .before .before .before .before .before .before .sort-shape-at .result) (c .before .before .before .before .before .before .before .sort-shape-at .ensures) _ (c .before .before .before .before .before .shape3 .given .1)) _ (c .before .before .before .read-sort .ensures) _ (c .before .below2 .given .1)
+read-sort-returns-5 t c = let a = c .before .before .before .before .before .before .before .before .before .before .before .before .before .args in inner-refused (a .sorts .now) (a .names .now) (a .nodes .now) (a .text .now) (a .at) (a .allow) (c .before .before .before .before .before .before .before .before .if1 .left) (c .before .before .before .before .before .before .before .sort-shape-at .result) (c .before .before .before .before .before .before .before .sort-shape-at .ensures) optionOf _ (makes-option (a .sorts .now) (a .names .now) (a .nodes .now) (a .text .now) (a .at) (a .allow) (c .before .before .before .before .before .before .before .before .if1 .left) (c .before .before .before .before .before .before .before .sort-shape-at .result) (c .before .before .before .before .before .before .before .sort-shape-at .ensures) _ (c .before .before .before .before .before .shape3 .given .1)) _ (c .before .before .before .read-sort .ensures) _ (c .before .below2 .given .1)
 
--- src/sort.rt:87:1
 read-sort-returns-6 : (t : ℕ) → read-sort-lts.Need-returns-6 (
   sort-shape-at-reads.Asked,
   sort-shape-at-reads.Learnt,
@@ -382,9 +358,8 @@ read-sort-returns-6 : (t : ℕ) → read-sort-lts.Need-returns-6 (
   row-of-reads.Asked,
   row-of-reads.Learnt,
 ) (read-sort-at t) read-sort.Post
-read-sort-returns-6 t c = inner-row (c .before .before .before .before .before .before .before .before .before .before .before .before .before .before .args .sorts .now) (c .before .before .before .before .before .before .before .before .before .before .before .before .before .before .args .names .now) (c .before .before .before .before .before .before .before .before .before .before .before .before .before .before .args .nodes .now) (c .before .before .before .before .before .before .before .before .before .before .before .before .before .before .args .text .now) (c .before .before .before .before .before .before .before .before .before .before .before .before .before .before .args .at) (c .before .before .before .before .before .before .before .before .before .before .before .before .before .before .args .allow) (c .before .before .before .before .before .before .before .before .before .if1 .left) (c .before .before .before .before .before .before .before .before .sort-shape-at .result) (c .before .before .before .before .before .before .before .before .sort-shape-at .ensures) setOf _ (makes-set (c .before .before .before .before .before .before .before .before .before .before .before .before .before .before .args .sorts .now) (c .before .before .before .before .before .before .before .before .before .before .before .before .before .before .args .names .now) (c .before .before .before .before .before .before .before .before .before .before .before .before .before .before .args .nodes .now) (c .before .before .before .before .before .before .before .before .before .before .before .before .before .before .args .text .now) (c .before .before .before .before .before .before .before .before .before .before .before .before .before .before .args .at) (c .before .before .before .before .before .before .before .before .before .before .before .before .before .before .args .allow) (c .before .before .before .before .before .before .before .before .before .if1 .left) (c .before .before .before .before .before .before .before .before .sort-shape-at .result) (c .before .before .before .before .before .before .before .before .sort-shape-at .ensures) _ (c .before .before .before .before .before .before .shape4 .given .1)) _ (c .before .before .before .before .read-sort2 .ensures) _ (c .before .before .below3 .given .1) (c .row-of2 .result) (c .row-of2 .ensures)
+read-sort-returns-6 t c = let a = c .before .before .before .before .before .before .before .before .before .before .before .before .before .before .args in inner-row (a .sorts .now) (a .names .now) (a .nodes .now) (a .text .now) (a .at) (a .allow) (c .before .before .before .before .before .before .before .before .before .if1 .left) (c .before .before .before .before .before .before .before .before .sort-shape-at .result) (c .before .before .before .before .before .before .before .before .sort-shape-at .ensures) setOf _ (makes-set (a .sorts .now) (a .names .now) (a .nodes .now) (a .text .now) (a .at) (a .allow) (c .before .before .before .before .before .before .before .before .before .if1 .left) (c .before .before .before .before .before .before .before .before .sort-shape-at .result) (c .before .before .before .before .before .before .before .before .sort-shape-at .ensures) _ (c .before .before .before .before .before .before .shape4 .given .1)) _ (c .before .before .before .before .read-sort2 .ensures) _ (c .before .before .below3 .given .1) (c .row-of2 .result) (c .row-of2 .ensures)
 
--- src/sort.rt:87:1
 read-sort-returns-7 : (t : ℕ) → read-sort-lts.Need-returns-7 (
   sort-shape-at-reads.Asked,
   sort-shape-at-reads.Learnt,
@@ -397,9 +372,8 @@ read-sort-returns-7 : (t : ℕ) → read-sort-lts.Need-returns-7 (
   row-of-reads.Asked,
   row-of-reads.Learnt,
 ) (read-sort-at t) read-sort.Post
-read-sort-returns-7 t c = inner-refused (c .before .before .before .before .before .before .before .before .before .before .before .before .before .args .sorts .now) (c .before .before .before .before .before .before .before .before .before .before .before .before .before .args .names .now) (c .before .before .before .before .before .before .before .before .before .before .before .before .before .args .nodes .now) (c .before .before .before .before .before .before .before .before .before .before .before .before .before .args .text .now) (c .before .before .before .before .before .before .before .before .before .before .before .before .before .args .at) (c .before .before .before .before .before .before .before .before .before .before .before .before .before .args .allow) (c .before .before .before .before .before .before .before .before .if1 .left) (c .before .before .before .before .before .before .before .sort-shape-at .result) (c .before .before .before .before .before .before .before .sort-shape-at .ensures) setOf _ (makes-set (c .before .before .before .before .before .before .before .before .before .before .before .before .before .args .sorts .now) (c .before .before .before .before .before .before .before .before .before .before .before .before .before .args .names .now) (c .before .before .before .before .before .before .before .before .before .before .before .before .before .args .nodes .now) (c .before .before .before .before .before .before .before .before .before .before .before .before .before .args .text .now) (c .before .before .before .before .before .before .before .before .before .before .before .before .before .args .at) (c .before .before .before .before .before .before .before .before .before .before .before .before .before .args .allow) (c .before .before .before .before .before .before .before .before .if1 .left) (c .before .before .before .before .before .before .before .sort-shape-at .result) (c .before .before .before .before .before .before .before .sort-shape-at .ensures) _ (c .before .before .before .before .before .shape4 .given .1)) _ (c .before .before .before .read-sort2 .ensures) _ (c .before .below4 .given .1)
+read-sort-returns-7 t c = let a = c .before .before .before .before .before .before .before .before .before .before .before .before .before .args in inner-refused (a .sorts .now) (a .names .now) (a .nodes .now) (a .text .now) (a .at) (a .allow) (c .before .before .before .before .before .before .before .before .if1 .left) (c .before .before .before .before .before .before .before .sort-shape-at .result) (c .before .before .before .before .before .before .before .sort-shape-at .ensures) setOf _ (makes-set (a .sorts .now) (a .names .now) (a .nodes .now) (a .text .now) (a .at) (a .allow) (c .before .before .before .before .before .before .before .before .if1 .left) (c .before .before .before .before .before .before .before .sort-shape-at .result) (c .before .before .before .before .before .before .before .sort-shape-at .ensures) _ (c .before .before .before .before .before .shape4 .given .1)) _ (c .before .before .before .read-sort2 .ensures) _ (c .before .below4 .given .1)
 
--- src/sort.rt:87:1
 read-sort-returns-8 : (t : ℕ) → read-sort-lts.Need-returns-8 (
   sort-shape-at-reads.Asked,
   sort-shape-at-reads.Learnt,
@@ -412,7 +386,7 @@ read-sort-returns-8 : (t : ℕ) → read-sort-lts.Need-returns-8 (
   row-of-reads.Asked,
   row-of-reads.Learnt,
 ) (read-sort-at t) read-sort.Post
-read-sort-returns-8 t c = sort-unknown (c .before .before .before .before .before .before .before .before .args .sorts .now) (c .before .before .before .before .before .before .before .before .args .names .now) (c .before .before .before .before .before .before .before .before .args .nodes .now) (c .before .before .before .before .before .before .before .before .args .text .now) (c .before .before .before .before .before .before .before .before .args .at) (c .before .before .before .before .before .before .before .before .args .allow) (c .before .before .before .if1 .left) (c .before .before .sort-shape-at .result) (c .before .before .sort-shape-at .ensures) (c .enum-told .given .1)
+read-sort-returns-8 t c = let a = c .before .before .before .before .before .before .before .before .args in sort-unknown (a .sorts .now) (a .names .now) (a .nodes .now) (a .text .now) (a .at) (a .allow) (c .before .before .before .if1 .left) (c .before .before .sort-shape-at .result) (c .before .before .sort-shape-at .ensures) (c .enum-told .given .1)
 
 pub +read-sort-spec : {M : Type 1} → statement M
 +read-sort-spec = close μ-read-sort λ t. read-sort-lts.spec (

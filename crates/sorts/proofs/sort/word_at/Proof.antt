@@ -10,37 +10,16 @@ use Rattle.sorts.proofs.sort.word_at.Lts as lts
 use Rattle.sorts.proofs.sort.sort_word.Reads as sort-word-reads
 use Rattle.tables.proofs.clamp.Reads as clamp-reads
 
--- src/sort.rt:81:9
-clamp-requires : tie.Need-clamp-requires
-clamp-requires c κs = search needs
-
--- src/sort.rt:84:29
-sub-sort-word : tie.Need-sub-sort-word
-sub-sort-word c = search needs
-
--- src/sort.rt:84:29
-part-sort-word-start : tie.Need-part-sort-word-start
-part-sort-word-start c = search needs
-
--- src/sort.rt:84:29
-part-sort-word-end : tie.Need-part-sort-word-end
-part-sort-word-end c = search needs
-
--- src/sort.rt:84:5
-sort-word-requires : tie.Need-sort-word-requires
-sort-word-requires c κs = search needs
-
--- src/sort.rt:78:1
 returns : tie.Need-returns
-returns c = subst (λ (s : List ℕ). WordSort (c .before .before .before .before .before .before .args .sorts .now) (c .before .before .before .before .before .before .args .names .now) s (c .sort-word .result)) (c .before .before .clamp .ensures .holds (c .before .before .before .before .before .before .args .text .now) refl) (c .sort-word .ensures)
+returns c = let a = c .before .before .before .before .before .before .args in subst (λ (s : List ℕ). WordSort (a .sorts .now) (a .names .now) s (c .sort-word .result)) (c .before .before .clamp .ensures .holds (a .text .now) refl) (c .sort-word .ensures)
 
 pub word-at-spec : {M : Type 1} → statement M
 word-at-spec =
     tie.close
     (tie.spec
-    clamp-requires
-    sub-sort-word
-    part-sort-word-start
-    part-sort-word-end
-    sort-word-requires
+    (λ c κs. search needs)
+    (λ c. search needs)
+    (λ c. search needs)
+    (λ c. search needs)
+    (λ c κs. search needs)
     returns)

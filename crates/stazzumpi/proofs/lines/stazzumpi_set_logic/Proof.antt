@@ -8,31 +8,9 @@ use Rattle.script.proofs.set_logic.Reads as set-logic-reads
 use Rattle.told.proofs.code.Reads as code-reads
 use Rattle.told.proofs.tell_written.Reads as tell-written-reads
 
--- src/lines.rt:19:9
-code-requires : tie.Need-code-requires
-code-requires c κs = search needs
-
--- src/lines.rt:19:9
 returns : tie.Need-returns
 returns c = exports-short _ _ _ _ _ (c .before .if1 .taken) (c .code .ensures)
 
--- src/lines.rt:21:9
-set-logic-requires : tie.Need-set-logic-requires
-set-logic-requires c κs = search needs
-
--- src/lines.rt:22:5
-tell-written-requires : tie.Need-tell-written-requires
-tell-written-requires c κs = search needs
-
--- src/lines.rt:14:1
-same-length : tie.Need-same-length
-same-length c = search needs
-
--- src/lines.rt:14:1
-same-length-2 : tie.Need-same-length-2
-same-length-2 c = search needs
-
--- src/lines.rt:14:1
 returns-2 : tie.Need-returns-2
 returns-2 c = exports-written _ _ _ (c .before .before .before .before .before .before .before .before .if1 .left) (c .before .before .before .before .before .before .set-logic .ensures) (c .before .before .tell-written .ensures)
 
@@ -40,10 +18,10 @@ pub stazzumpi-set-logic-spec : {M : Type 1} → statement M
 stazzumpi-set-logic-spec =
     tie.close
     (tie.spec
-    code-requires
+    (λ c κs. search needs)
     returns
-    set-logic-requires
-    tell-written-requires
-    same-length
-    same-length-2
+    (λ c κs. search needs)
+    (λ c κs. search needs)
+    (λ c. search needs)
+    (λ c. search needs)
     returns-2)

@@ -8,27 +8,9 @@ use Rattle.told.proofs.code.Reads as code-reads
 use Rattle.told.proofs.tell_found.Reads as tell-found-reads
 use Rattle.tables.proofs.find_sort_name.Reads as find-sort-name-reads
 
--- src/lookups.rt:70:9
-code-requires : tie.Need-code-requires
-code-requires c κs = search needs
-
--- src/lookups.rt:70:9
 returns : tie.Need-returns
 returns c = promises-short _ _ _ _ _ _ (c .before .if1 .taken) (c .code .ensures)
 
--- src/lookups.rt:72:9
-find-sort-name-requires : tie.Need-find-sort-name-requires
-find-sort-name-requires c κs = search needs
-
--- src/lookups.rt:73:5
-tell-found-requires : tie.Need-tell-found-requires
-tell-found-requires c κs = search needs
-
--- src/lookups.rt:60:1
-same-length : tie.Need-same-length
-same-length c = search needs
-
--- src/lookups.rt:60:1
 returns-2 : tie.Need-returns-2
 returns-2 c = promises-call _ _ _ _ _ (c .before .before .before .before .before .if1 .left) (c .before .before .before .before .find-sort-name .ensures) (c .before .before .tell-found .ensures)
 
@@ -36,9 +18,9 @@ pub stazzumpi-find-sort-name-spec : {M : Type 1} → statement M
 stazzumpi-find-sort-name-spec =
     tie.close
     (tie.spec
-    code-requires
+    (λ c κs. search needs)
     returns
-    find-sort-name-requires
-    tell-found-requires
-    same-length
+    (λ c κs. search needs)
+    (λ c κs. search needs)
+    (λ c. search needs)
     returns-2)

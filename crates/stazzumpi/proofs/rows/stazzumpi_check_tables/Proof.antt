@@ -9,31 +9,13 @@ use Rattle.stazzumpi.proofs.rows.stazzumpi_check_tables.Lts as lts
 use Rattle.told.proofs.code.Reads as code-reads
 use Rattle.tables.proofs.check_tables.Reads as check-tables-reads
 
--- src/rows.rt:24:9
-check-tables-requires : tie.Need-check-tables-requires
-check-tables-requires c κs = search needs
-
--- src/rows.rt:26:28
-enum-told : tie.Need-enum-told
-enum-told c = search needs
-
--- src/rows.rt:27:26
-enum-known-answer : tie.Need-enum-known-answer
-enum-known-answer c = search needs
-
--- src/rows.rt:27:34
-code-requires : tie.Need-code-requires
-code-requires c κs = search needs
-
--- src/rows.rt:13:1
 returns : tie.Need-returns
 returns c = ap (λ a. wordOf (passed a)) (sym (c .enum-told .given .1) ∙ c .before .before .check-tables .ensures)
 
--- src/rows.rt:13:1
 returns-2 : tie.Need-returns-2
 returns-2 c = c .code .ensures ∙ ap (λ a. wordOf (passed a)) (sym (c .before .before .answer .given .1) ∙ c .before .before .before .before .check-tables .ensures)
 
 pub stazzumpi-check-tables-spec : {M : Type 1} → statement M
 stazzumpi-check-tables-spec =
     tie.close
-    (tie.spec check-tables-requires enum-told enum-known-answer code-requires returns returns-2)
+    (tie.spec (λ c κs. search needs) (λ c. search needs) (λ c. search needs) (λ c κs. search needs) returns returns-2)

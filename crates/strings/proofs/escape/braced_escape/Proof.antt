@@ -10,35 +10,18 @@ use Rattle.strings.proofs.escape.braced_escape.Reads as reads
 use Rattle.strings.proofs.escape.braced_escape.Lts as lts
 use Rattle.strings.proofs.escape.hex_digits.Reads as hex-digits-reads
 
--- src/escape.rt:54:9
-hex-digits-requires : tie.Need-hex-digits-requires
-hex-digits-requires c κs = search needs
-
--- src/escape.rt:55:26
-enum-known-found : tie.Need-enum-known-found
-enum-known-found c = search needs
-
--- src/escape.rt:56:9
-enum-told : tie.Need-enum-told
-enum-told c = search needs
-
--- src/escape.rt:56:9
 returns : tie.Need-returns
 returns c = braced-failed _ (sym (c .before .before .hex-digits .ensures) ∙ c .enum-told .given .1)
 
--- src/escape.rt:59:9
 returns-2 : tie.Need-returns-2
 returns-2 c = braced-empty _ _ _ (sym (c .before .before .before .before .hex-digits .ensures) ∙ c .before .before .found .given .1) (c .if1 .taken)
 
--- src/escape.rt:62:9
 returns-3 : tie.Need-returns-3
 returns-3 c = braced-large _ _ _ (sym (c .before .before .before .before .before .hex-digits .ensures) ∙ c .before .before .before .found .given .1) (le-trans (lit≤ tt) (c .if2 .taken))
 
--- src/escape.rt:66:16
 add-t7 : tie.Need-add-t7
 add-t7 c = record { fits = omega (arith, braced-few _ _ _ (sym (c .before .before .before .before .before .hex-digits .ensures) ∙ c .before .before .before .found .given .1)) }
 
--- src/escape.rt:50:1
 returns-4 : tie.Need-returns-4
 returns-4 c = braced-point _ _ _ (sym (c .before .before .before .before .before .hex-digits .ensures) ∙ c .before .before .before .found .given .1) (c .before .if1 .left) (c .if2 .left)
 
@@ -46,9 +29,9 @@ pub braced-escape-spec : {M : Type 1} → statement M
 braced-escape-spec =
     tie.close
     (tie.spec
-    hex-digits-requires
-    enum-known-found
-    enum-told
+    (λ c κs. search needs)
+    (λ c. search needs)
+    (λ c. search needs)
     returns
     returns-2
     returns-3

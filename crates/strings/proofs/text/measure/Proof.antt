@@ -16,43 +16,24 @@ Inv-loop s total₀ at₀ total at = Measuring s total at
 abbrev μ-loop : tie.MeasureT-loop
 μ-loop s total₀ at₀ total at = length s - at
 
--- src/text.rt:27:5
 loop-holds : tie.Need-loop-holds Inv-loop μ-loop
 loop-holds c = measuring-start _
 
--- src/text.rt:28:13
-character-at-requires : tie.Need-character-at-requires Inv-loop μ-loop
-character-at-requires c κs = search needs
-
--- src/text.rt:29:13
-encoded-length-requires : tie.Need-encoded-length-requires Inv-loop μ-loop
-encoded-length-requires c κs = search needs
-
--- src/text.rt:31:13
 returns : tie.Need-returns Inv-loop μ-loop
 returns c = measuring-surrogate _ _ _ (c .before .before .before .before .loop .inv) _ (c .before .before .before .loop-test .taken) (c .before .before .character-at .ensures) _ (c .before .encoded-length .ensures) (c .if1 .taken)
 
--- src/text.rt:33:9
 add-total : tie.Need-add-total Inv-loop μ-loop
 add-total c = record { fits = omega (arith, measuring-most _ _ _ (c .before .before .before .before .loop .inv) _ (c .before .before .before .loop-test .taken) (c .before .before .character-at .ensures) _ (c .before .encoded-length .ensures) (c .if1 .left) (c .before .before .before .before .before .shared-slice-known .given (c .before .before .before .before .loop .at) .fits), next-inside _ _ _ (c .before .before .before .loop-test .taken) (c .before .before .character-at .ensures) (c .before .before .before .before .before .shared-slice-known .given (c .before .before .before .before .loop .at) .fits)) }
 
--- src/text.rt:34:14
-add-at : tie.Need-add-at Inv-loop μ-loop
-add-at c = search needs
-
--- src/text.rt:34:14
 add-at-2 : tie.Need-add-at-2 Inv-loop μ-loop
 add-at-2 c = record { fits = omega (arith, next-inside _ _ _ (c .before .before .before .before .loop-test .taken) (c .before .before .before .character-at .ensures) (c .before .before .before .before .before .before .shared-slice-known .given (c .before .before .before .before .before .loop .at) .fits)) }
 
--- src/text.rt:27:5
 loop-less : tie.Need-loop-less Inv-loop μ-loop
 loop-less c = omega (arith, next-inside _ _ _ (c .before .before .before .before .loop-test .taken) (c .before .before .before .character-at .ensures) (c .before .before .before .before .before .before .shared-slice-known .given (c .before .before .before .before .before .loop .at) .fits))
 
--- src/text.rt:27:5
 loop-again : tie.Need-loop-again Inv-loop μ-loop
 loop-again c = measuring-step _ _ _ (c .before .before .before .before .before .loop .inv) _ (c .before .before .before .before .loop-test .taken) (c .before .before .before .character-at .ensures) _ (c .before .before .encoded-length .ensures) (c .before .if1 .left) (c .before .before .before .before .before .before .shared-slice-known .given (c .before .before .before .before .before .loop .at) .fits)
 
--- src/text.rt:22:1
 returns-2 : tie.Need-returns-2 Inv-loop μ-loop
 returns-2 c = measuring-end _ _ _ (c .before .loop .inv) (c .loop-test .left)
 
@@ -63,11 +44,11 @@ measure-spec =
     Inv-loop
     μ-loop
     loop-holds
-    character-at-requires
-    encoded-length-requires
+    (λ c κs. search needs)
+    (λ c κs. search needs)
     returns
     add-total
-    add-at
+    (λ c. search needs)
     add-at-2
     loop-less
     loop-again

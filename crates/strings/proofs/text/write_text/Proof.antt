@@ -17,43 +17,24 @@ Inv-loop s out₀ to₀ at₀ out to at = Writing s out₀ to at out
 abbrev μ-loop : tie.MeasureT-loop
 μ-loop s out₀ to₀ at₀ out to at = length s - at
 
--- src/text.rt:78:5
 loop-holds : tie.Need-loop-holds Inv-loop μ-loop
 loop-holds c = writing-start _ _ (c .before .before .pre)
 
--- src/text.rt:79:13
-character-at-requires : tie.Need-character-at-requires Inv-loop μ-loop
-character-at-requires c κs = search needs
-
--- src/text.rt:80:13
-encode-requires : tie.Need-encode-requires Inv-loop μ-loop
-encode-requires c κs = search needs
-
--- src/text.rt:81:9
 put-requires : tie.Need-put-requires Inv-loop μ-loop
 put-requires c κs = writing-fits _ _ _ _ _ (c .before .before .before .before .loop .inv) _ (c .before .before .before .loop-test .taken) (c .before .before .character-at .ensures) _ (c .before .encode .ensures)
 
--- src/text.rt:82:14
-add-at : tie.Need-add-at Inv-loop μ-loop
-add-at c = search needs
-
--- src/text.rt:82:14
 add-at-2 : tie.Need-add-at-2 Inv-loop μ-loop
 add-at-2 c = record { fits = omega (arith, next-inside _ _ _ (c .before .before .before .before .before .before .before .loop-test .taken) (c .before .before .before .before .before .before .character-at .ensures) (c .before .before .before .before .before .before .before .before .before .before .shared-slice-known .given (c .before .before .before .before .before .before .before .before .loop .at) .fits)) }
 
--- src/text.rt:78:5
 loop-less : tie.Need-loop-less Inv-loop μ-loop
 loop-less c = omega (arith, next-inside _ _ _ (c .before .before .before .before .before .before .before .loop-test .taken) (c .before .before .before .before .before .before .character-at .ensures) (c .before .before .before .before .before .before .before .before .before .before .shared-slice-known .given (c .before .before .before .before .before .before .before .before .loop .at) .fits))
 
--- src/text.rt:78:5
 loop-again : tie.Need-loop-again Inv-loop μ-loop
 loop-again c = writing-step _ _ _ _ _ (c .before .before .before .before .before .before .before .before .loop .inv) _ (c .before .before .before .before .before .before .before .loop-test .taken) (c .before .before .before .before .before .before .character-at .ensures) _ (c .before .before .before .before .before .encode .ensures) (c .before .before .before .before .before .before .before .before .before .before .shared-slice-known .given (c .before .before .before .before .before .before .before .before .loop .at) .fits) _ _ (c .before .before .before .put .ensures)
 
--- src/text.rt:72:1
 same-length : tie.Need-same-length Inv-loop μ-loop
 same-length c = c .before .loop .inv .long
 
--- src/text.rt:72:1
 returns : tie.Need-returns Inv-loop μ-loop
 returns c = writing-end _ _ _ _ _ (c .before .loop .inv) (c .loop-test .left)
 
@@ -64,10 +45,10 @@ write-text-spec =
     Inv-loop
     μ-loop
     loop-holds
-    character-at-requires
-    encode-requires
+    (λ c κs. search needs)
+    (λ c κs. search needs)
     put-requires
-    add-at
+    (λ c. search needs)
     add-at-2
     loop-less
     loop-again

@@ -11,17 +11,8 @@ Inv-loop rows names marks₀ left₀ marks left = Marked (nameAt names rows) (co
 abbrev μ-loop : tie.MeasureT-loop
 μ-loop rows names marks₀ left₀ marks left = left
 
-count-requires : tie.Need-count-requires Inv-loop μ-loop
-count-requires c κs = search needs
-
 loop-holds : tie.Need-loop-holds Inv-loop μ-loop
 loop-holds c = let a = c .before .before .before .args in marked-start (nameAt (a .names .now) (a .rows .now)) (count (a .rows .now)) _ (c .count .ensures)
-
-sub-left : tie.Need-sub-left Inv-loop μ-loop
-sub-left c = search needs
-
-name-slot-requires : tie.Need-name-slot-requires Inv-loop μ-loop
-name-slot-requires c κs = search needs
 
 array-read-is-alone : tie.Need-array-read-is-alone Inv-loop μ-loop
 array-read-is-alone c = let a = c .before .before .before .before .before .before .args in slot-within (nameAt (a .names .now) (a .rows .now)) (count (a .rows .now)) _ _ (c .name-slot .ensures)
@@ -35,9 +26,6 @@ returns c = marked-fails _ _ _ _ (c .before .before .before .before .loop .inv) 
 array-write-marks : tie.Need-array-write-marks Inv-loop μ-loop
 array-write-marks c = let a = c .before .before .before .before .before .before .before .before .args in slot-within (nameAt (a .names .now) (a .rows .now)) (count (a .rows .now)) _ _ (c .before .before .name-slot .ensures)
 
-loop-less : tie.Need-loop-less Inv-loop μ-loop
-loop-less c = search needs
-
 loop-again : tie.Need-loop-again Inv-loop μ-loop
 loop-again c = marked-next _ _ _ _ (c .before .before .before .before .loop .inv) (c .before .before .before .loop-test .taken) _ (c .before .is-alone .ensures) (c .if1 .left) _ (c .before .before .name-slot .ensures)
 
@@ -50,14 +38,14 @@ are-alone-spec =
     (tie.spec
     Inv-loop
     μ-loop
-    count-requires
+    (λ c κs. search needs)
     loop-holds
-    sub-left
-    name-slot-requires
+    (λ c. search needs)
+    (λ c κs. search needs)
     array-read-is-alone
     is-alone-requires
     returns
     array-write-marks
-    loop-less
+    (λ c. search needs)
     loop-again
     returns-2)

@@ -14,17 +14,8 @@ Inv-loop sorts names marks₀ left₀ marks left = Marked (λ k. identity (sortA
 abbrev μ-loop : tie.MeasureT-loop
 μ-loop sorts names marks₀ left₀ marks left = left
 
-count-requires : tie.Need-count-requires Inv-loop μ-loop
-count-requires c κs = search needs
-
 loop-holds : tie.Need-loop-holds Inv-loop μ-loop
 loop-holds c = let a = c .before .before .before .args in marked-start (λ k. identity (sortAt (lentSorts (a .sorts .now) [] (a .names .now)) k)) (count (a .sorts .now)) _ (c .count .ensures)
-
-sub-left : tie.Need-sub-left Inv-loop μ-loop
-sub-left c = search needs
-
-sort-slot-requires : tie.Need-sort-slot-requires Inv-loop μ-loop
-sort-slot-requires c κs = search needs
 
 array-read-is-alone-sort : tie.Need-array-read-is-alone-sort Inv-loop μ-loop
 array-read-is-alone-sort c = let a = c .before .before .before .before .before .before .args in slot-within (λ k. identity (sortAt (lentSorts (a .sorts .now) [] (a .names .now)) k)) (count (a .sorts .now)) _ _ (c .sort-slot .ensures)
@@ -38,9 +29,6 @@ returns c = marked-fails _ _ _ _ (c .before .before .before .before .loop .inv) 
 array-write-marks : tie.Need-array-write-marks Inv-loop μ-loop
 array-write-marks c = let a = c .before .before .before .before .before .before .before .before .args in slot-within (λ k. identity (sortAt (lentSorts (a .sorts .now) [] (a .names .now)) k)) (count (a .sorts .now)) _ _ (c .before .before .sort-slot .ensures)
 
-loop-less : tie.Need-loop-less Inv-loop μ-loop
-loop-less c = search needs
-
 loop-again : tie.Need-loop-again Inv-loop μ-loop
 loop-again c = marked-next _ _ _ _ (c .before .before .before .before .loop .inv) (c .before .before .before .loop-test .taken) _ (c .before .is-alone-sort .ensures) (c .if1 .left) _ (c .before .before .sort-slot .ensures)
 
@@ -53,14 +41,14 @@ are-alone-sorts-spec =
     (tie.spec
     Inv-loop
     μ-loop
-    count-requires
+    (λ c κs. search needs)
     loop-holds
-    sub-left
-    sort-slot-requires
+    (λ c. search needs)
+    (λ c κs. search needs)
     array-read-is-alone-sort
     is-alone-sort-requires
     returns
     array-write-marks
-    loop-less
+    (λ c. search needs)
     loop-again
     returns-2)

@@ -8,33 +8,6 @@ use Rattle.tables.proofs.alone.is_alone.Tie as tie
 returns : tie.Need-returns
 returns c = sym (c .before .before .before .pre .1 (c .if1 .taken))
 
-word-requires : tie.Need-word-requires
-word-requires c κs = search needs
-
-word-requires-2 : tie.Need-word-requires-2
-word-requires-2 c κs = search needs
-
-clamp-requires : tie.Need-clamp-requires
-clamp-requires c κs = search needs
-
-sub-find-name : tie.Need-sub-find-name
-sub-find-name c = search needs
-
-part-find-name-start : tie.Need-part-find-name-start
-part-find-name-start c = search needs
-
-part-find-name-end : tie.Need-part-find-name-end
-part-find-name-end c = search needs
-
-add-find-name : tie.Need-add-find-name
-add-find-name c = search needs
-
-find-name-requires : tie.Need-find-name-requires
-find-name-requires c κs = search needs
-
-is-row-requires : tie.Need-is-row-requires
-is-row-requires c κs = search needs
-
 returns-2 : tie.Need-returns-2
 returns-2 c = let a = c .before .before .before .before .before .before .before .before .before .args in alone-name (a .names .now) (a .rows .now) (a .row) _ _ _ (clamps-name (a .names .now) (a .rows .now) (a .row) _ _ _ (c .before .before .before .before .before .word .ensures) (c .before .before .before .before .word2 .ensures) (c .before .before .before .clamp .ensures)) (c .before .find-name .ensures) (c .is-row .ensures)
 
@@ -43,13 +16,13 @@ is-alone-spec =
     tie.close
     (tie.spec
     returns
-    word-requires
-    word-requires-2
-    clamp-requires
-    sub-find-name
-    part-find-name-start
-    part-find-name-end
-    add-find-name
-    find-name-requires
-    is-row-requires
+    (λ c κs. search needs)
+    (λ c κs. search needs)
+    (λ c κs. search needs)
+    (λ c. search needs)
+    (λ c. search needs)
+    (λ c. search needs)
+    (λ c. search needs)
+    (λ c κs. search needs)
+    (λ c κs. search needs)
     returns-2)

@@ -12,35 +12,17 @@ Inv-loop functions names sorts rows-there i₀ i = Sofar functions (rightFunctio
 abbrev μ-loop : tie.MeasureT-loop
 μ-loop functions names sorts rows-there i₀ i = rows-there - i
 
-is-table-requires : tie.Need-is-table-requires Inv-loop μ-loop
-is-table-requires c κs = search needs
-
 returns : tie.Need-returns Inv-loop μ-loop
 returns c = and-no _ _ _ (c .before .is-table .ensures) (c .if1 .taken)
-
-count-requires : tie.Need-count-requires Inv-loop μ-loop
-count-requires c κs = search needs
 
 loop-holds : tie.Need-loop-holds Inv-loop μ-loop
 loop-holds c = let a = c .before .before .before .before .before .args in sofar-start (a .functions .now) (rightFunction (a .functions .now) (a .names .now) (a .sorts)) (alone (a .names .now) (a .functions .now)) _ _ (c .before .before .is-table .ensures) (c .before .if1 .left) (c .count .ensures)
 
-is-function-requires : tie.Need-is-function-requires Inv-loop μ-loop
-is-function-requires c κs = search needs
-
 returns-2 : tie.Need-returns-2 Inv-loop μ-loop
 returns-2 c = sofar-wrong _ _ _ _ _ (c .before .before .before .loop .inv) (c .before .before .loop-test .taken) _ (c .before .is-function .ensures) (c .if2 .taken)
 
-add-i : tie.Need-add-i Inv-loop μ-loop
-add-i c = search needs
-
-loop-less : tie.Need-loop-less Inv-loop μ-loop
-loop-less c = search needs
-
 loop-again : tie.Need-loop-again Inv-loop μ-loop
 loop-again c = sofar-next _ _ _ _ _ (c .before .before .before .loop .inv) (c .before .before .loop-test .taken) _ (c .before .is-function .ensures) (c .if2 .left)
-
-are-alone-requires : tie.Need-are-alone-requires Inv-loop μ-loop
-are-alone-requires c κs = search needs
 
 returns-3 : tie.Need-returns-3 Inv-loop μ-loop
 returns-3 c = sofar-end _ _ _ _ _ (c .before .before .loop .inv) (c .before .loop-test .left) _ (c .are-alone .ensures)
@@ -51,14 +33,14 @@ check-functions-spec =
     (tie.spec
     Inv-loop
     μ-loop
-    is-table-requires
+    (λ c κs. search needs)
     returns
-    count-requires
+    (λ c κs. search needs)
     loop-holds
-    is-function-requires
+    (λ c κs. search needs)
     returns-2
-    add-i
-    loop-less
+    (λ c. search needs)
+    (λ c. search needs)
     loop-again
-    are-alone-requires
+    (λ c κs. search needs)
     returns-3)

@@ -6,11 +6,8 @@ use Rattle.tables.proofs.check.is_table.Tie as tie
 returns : tie.Need-returns
 returns c = table-odd (c .before .before .args .rows .now) (c .if1 .taken)
 
-count-requires : tie.Need-count-requires
-count-requires c κs = search needs
-
 returns-2 : tie.Need-returns-2
 returns-2 c = table-whole (c .before .before .before .args .rows .now) (c .before .if1 .left) _ (c .count .ensures)
 
 pub is-table-spec : {M : Type 1} → statement M
-is-table-spec = tie.close (tie.spec returns count-requires returns-2)
+is-table-spec = tie.close (tie.spec returns (λ c κs. search needs) returns-2)

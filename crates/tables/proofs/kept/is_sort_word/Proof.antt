@@ -3,56 +3,20 @@ use borrow.Author.Needs.{needs}
 use Rattle.tables.proofs.kept.is_sort_word.Statement.{statement}
 use Rattle.tables.proofs.kept.is_sort_word.Tie as tie
 
-slice-aggregate-same : tie.Need-slice-aggregate-same
-slice-aggregate-same c = search needs
-
-same-requires : tie.Need-same-requires
-same-requires c κs = search needs
-
 returns : tie.Need-returns
 returns c = word-hit _ _ _ _ (c .before .same .ensures) (c .if1 .taken)
-
-slice-aggregate-same-2 : tie.Need-slice-aggregate-same-2
-slice-aggregate-same-2 c = search needs
-
-same-requires-2 : tie.Need-same-requires-2
-same-requires-2 c κs = search needs
 
 returns-2 : tie.Need-returns-2
 returns-2 c = word-skip _ _ _ _ (c .before .before .before .before .same .ensures) (c .before .before .before .if1 .left) _ (word-hit _ _ _ _ (c .before .same2 .ensures) (c .if2 .taken))
 
-slice-aggregate-same-3 : tie.Need-slice-aggregate-same-3
-slice-aggregate-same-3 c = search needs
-
-same-requires-3 : tie.Need-same-requires-3
-same-requires-3 c κs = search needs
-
 returns-3 : tie.Need-returns-3
 returns-3 c = word-skip _ _ _ _ (c .before .before .before .before .before .before .before .same .ensures) (c .before .before .before .before .before .before .if1 .left) _ (word-skip _ _ _ _ (c .before .before .before .before .same2 .ensures) (c .before .before .before .if2 .left) _ (word-hit _ _ _ _ (c .before .same3 .ensures) (c .if3 .taken)))
-
-slice-aggregate-same-4 : tie.Need-slice-aggregate-same-4
-slice-aggregate-same-4 c = search needs
-
-same-requires-4 : tie.Need-same-requires-4
-same-requires-4 c κs = search needs
 
 returns-4 : tie.Need-returns-4
 returns-4 c = word-skip _ _ _ _ (c .before .before .before .before .before .before .before .before .before .before .same .ensures) (c .before .before .before .before .before .before .before .before .before .if1 .left) _ (word-skip _ _ _ _ (c .before .before .before .before .before .before .before .same2 .ensures) (c .before .before .before .before .before .before .if2 .left) _ (word-skip _ _ _ _ (c .before .before .before .before .same3 .ensures) (c .before .before .before .if3 .left) _ (word-hit _ _ _ _ (c .before .same4 .ensures) (c .if4 .taken))))
 
-slice-aggregate-same-5 : tie.Need-slice-aggregate-same-5
-slice-aggregate-same-5 c = search needs
-
-same-requires-5 : tie.Need-same-requires-5
-same-requires-5 c κs = search needs
-
 returns-5 : tie.Need-returns-5
 returns-5 c = word-skip _ _ _ _ (c .before .before .before .before .before .before .before .before .before .before .before .before .before .same .ensures) (c .before .before .before .before .before .before .before .before .before .before .before .before .if1 .left) _ (word-skip _ _ _ _ (c .before .before .before .before .before .before .before .before .before .before .same2 .ensures) (c .before .before .before .before .before .before .before .before .before .if2 .left) _ (word-skip _ _ _ _ (c .before .before .before .before .before .before .before .same3 .ensures) (c .before .before .before .before .before .before .if3 .left) _ (word-skip _ _ _ _ (c .before .before .before .before .same4 .ensures) (c .before .before .before .if4 .left) _ (word-hit _ _ _ _ (c .before .same5 .ensures) (c .if5 .taken)))))
-
-slice-aggregate-same-6 : tie.Need-slice-aggregate-same-6
-slice-aggregate-same-6 c = search needs
-
-same-requires-6 : tie.Need-same-requires-6
-same-requires-6 c κs = search needs
 
 returns-6 : tie.Need-returns-6
 returns-6 c = word-skip _ _ _ _ (c .before .before .before .before .before .before .before .before .before .before .before .before .before .before .before .same .ensures) (c .before .before .before .before .before .before .before .before .before .before .before .before .before .before .if1 .left) _ (word-skip _ _ _ _ (c .before .before .before .before .before .before .before .before .before .before .before .before .same2 .ensures) (c .before .before .before .before .before .before .before .before .before .before .before .if2 .left) _ (word-skip _ _ _ _ (c .before .before .before .before .before .before .before .before .before .same3 .ensures) (c .before .before .before .before .before .before .before .before .if3 .left) _ (word-skip _ _ _ _ (c .before .before .before .before .before .before .same4 .ensures) (c .before .before .before .before .before .if4 .left) _ (word-skip _ _ _ _ (c .before .before .before .same5 .ensures) (c .before .before .if5 .left) _ (word-last _ _ _ (c .same6 .ensures))))))
@@ -61,21 +25,21 @@ pub is-sort-word-spec : {M : Type 1} → statement M
 is-sort-word-spec =
     tie.close
     (tie.spec
-    slice-aggregate-same
-    same-requires
+    (λ c. search needs)
+    (λ c κs. search needs)
     returns
-    slice-aggregate-same-2
-    same-requires-2
+    (λ c. search needs)
+    (λ c κs. search needs)
     returns-2
-    slice-aggregate-same-3
-    same-requires-3
+    (λ c. search needs)
+    (λ c κs. search needs)
     returns-3
-    slice-aggregate-same-4
-    same-requires-4
+    (λ c. search needs)
+    (λ c κs. search needs)
     returns-4
-    slice-aggregate-same-5
-    same-requires-5
+    (λ c. search needs)
+    (λ c κs. search needs)
     returns-5
-    slice-aggregate-same-6
-    same-requires-6
+    (λ c. search needs)
+    (λ c κs. search needs)
     returns-6)

@@ -7,17 +7,11 @@ use Rattle.tables.proofs.row.clamp.Tie as tie
 returns : tie.Need-returns
 returns c = clamps-past _ _ _ (c .if1 .taken)
 
-sub-left : tie.Need-sub-left
-sub-left c = search needs
-
 returns-2 : tie.Need-returns-2
 returns-2 c = clamps-cut _ _ _ (omega arith) (c .if2 .taken)
-
-add-t9 : tie.Need-add-t9
-add-t9 c = search needs
 
 returns-3 : tie.Need-returns-3
 returns-3 c = clamps-whole _ _ _ (omega arith) (omega arith)
 
 pub clamp-spec : {M : Type 1} → statement M
-clamp-spec = tie.close (tie.spec returns sub-left returns-2 add-t9 returns-3)
+clamp-spec = tie.close (tie.spec returns (λ c. search needs) returns-2 (λ c. search needs) returns-3)

@@ -6,11 +6,8 @@ use Rattle.tables.proofs.rules.is_right.Tie as tie
 returns : tie.Need-returns
 returns c = let a = c .before .before .args in right-long (a .name .now) (c .if1 .taken)
 
-is-symbol-requires : tie.Need-is-symbol-requires
-is-symbol-requires c κs = search needs
-
 returns-2 : tie.Need-returns-2
 returns-2 c = let a = c .before .before .before .args in right-short (a .name .now) (c .before .if1 .left) _ (c .is-symbol .ensures)
 
 pub is-right-spec : {M : Type 1} → statement M
-is-right-spec = tie.close (tie.spec returns is-symbol-requires returns-2)
+is-right-spec = tie.close (tie.spec returns (λ c κs. search needs) returns-2)

@@ -3,20 +3,11 @@ use borrow.Author.Needs.{needs}
 use Rattle.tables.proofs.rules.is_sort.Statement.{statement}
 use Rattle.tables.proofs.rules.is_sort.Tie as tie
 
-word-requires : tie.Need-word-requires
-word-requires c κs = search needs
-
 returns : tie.Need-returns
 returns c = let a = c .before .before .before .before .before .args in sort-zero (a .sorts .now) (a .fields .now) (a .names .now) (a .row) _ (c .before .word .ensures) (c .if1 .taken)
 
 returns-2 : tie.Need-returns-2
 returns-2 c = let a = c .before .before .before .before .before .before .args in sort-plain (a .sorts .now) (a .fields .now) (a .names .now) (a .row) _ (c .before .before .word .ensures) (c .before .if1 .left) (c .if2 .taken)
-
-word-requires-2 : tie.Need-word-requires-2
-word-requires-2 c κs = search needs
-
-is-width-requires : tie.Need-is-width-requires
-is-width-requires c κs = search needs
 
 returns-3 : tie.Need-returns-3
 returns-3 c = let a = c .before .before .before .before .before .before .before .before .before .args in sort-width (a .sorts .now) (a .fields .now) (a .names .now) (a .row) _ (c .before .before .before .before .before .word .ensures) _ (c .before .before .word2 .ensures) (c .before .if3 .taken) _ (c .is-width .ensures)
@@ -27,20 +18,11 @@ returns-4 c = let a = c .before .before .before .before .before .before .before 
 returns-5 : tie.Need-returns-5
 returns-5 c = let a = c .before .before .before .before .before .before .before .before .before .before .args in sort-unknown (a .sorts .now) (a .fields .now) (a .names .now) (a .row) _ (c .before .before .before .before .before .before .word .ensures) (c .if5 .taken)
 
-is-own-requires : tie.Need-is-own-requires
-is-own-requires c κs = search needs
-
 returns-6 : tie.Need-returns-6
 returns-6 c = let a = c .before .before .before .before .before .before .before .before .before .before .before .before .args in sort-unnamed (a .sorts .now) (a .fields .now) (a .names .now) (a .row) _ (c .before .before .before .before .before .before .before .before .word .ensures) _ (c .before .before .before .before .before .word2 .ensures) _ (c .before .is-own .ensures) (c .if6 .taken) (c .before .before .before .if4 .left) (c .before .before .if5 .left)
 
 returns-7 : tie.Need-returns-7
 returns-7 c = let a = c .before .before .before .before .before .before .before .before .before .before .before .before .before .args in sort-entity (a .sorts .now) (a .fields .now) (a .names .now) (a .row) _ (c .before .before .before .before .before .before .before .before .before .word .ensures) _ (c .before .before .before .before .before .before .word2 .ensures) _ (c .before .before .is-own .ensures) (c .before .if6 .left) (c .if7 .taken)
-
-word-requires-3 : tie.Need-word-requires-3
-word-requires-3 c κs = search needs
-
-are-fields-requires : tie.Need-are-fields-requires
-are-fields-requires c κs = search needs
 
 returns-8 : tie.Need-returns-8
 returns-8 c = let a = c .before .before .before .before .before .before .before .before .before .before .before .before .before .before .before .args in sort-record (a .sorts .now) (a .fields .now) (a .names .now) (a .row) _ (c .before .before .before .before .before .before .before .before .before .before .before .word .ensures) _ (c .before .before .before .before .before .before .before .before .word2 .ensures) _ (c .before .before .before .before .is-own .ensures) (c .before .before .before .if6 .left) (c .before .before .before .before .before .before .if4 .left) (c .before .before .before .before .before .if5 .left) (c .before .before .if7 .left) _ (c .before .word3 .ensures) _ (c .are-fields .ensures)
@@ -49,17 +31,17 @@ pub is-sort-spec : {M : Type 1} → statement M
 is-sort-spec =
     tie.close
     (tie.spec
-    word-requires
+    (λ c κs. search needs)
     returns
     returns-2
-    word-requires-2
-    is-width-requires
+    (λ c κs. search needs)
+    (λ c κs. search needs)
     returns-3
     returns-4
     returns-5
-    is-own-requires
+    (λ c κs. search needs)
     returns-6
     returns-7
-    word-requires-3
-    are-fields-requires
+    (λ c κs. search needs)
+    (λ c κs. search needs)
     returns-8)

@@ -15,20 +15,11 @@ abbrev μ-loop : tie.MeasureT-loop
 loop-holds : tie.Need-loop-holds Inv-loop μ-loop
 loop-holds c = folded-start _ _ (c .before .pre)
 
-shared-slice-read-next-slot : tie.Need-shared-slice-read-next-slot Inv-loop μ-loop
-shared-slice-read-next-slot c = search needs
-
 cast-next-slot : tie.Need-cast-next-slot Inv-loop μ-loop
 cast-next-slot c = record { fits = omega (arith, c .shared-slice-known2 .given (c .before .before .loop .i)) }
 
 next-slot-requires : tie.Need-next-slot-requires Inv-loop μ-loop
 next-slot-requires c κs = c .before .before .loop .inv .below
-
-add-i : tie.Need-add-i Inv-loop μ-loop
-add-i c = search needs
-
-loop-less : tie.Need-loop-less Inv-loop μ-loop
-loop-less c = search needs
 
 loop-again : tie.Need-loop-again Inv-loop μ-loop
 loop-again c = folded-next _ _ _ _ (c .before .before .before .loop .inv) (c .before .before .loop-test .taken) _ (c .next-slot .ensures)
@@ -43,10 +34,10 @@ slot-from-spec =
     Inv-loop
     μ-loop
     loop-holds
-    shared-slice-read-next-slot
+    (λ c. search needs)
     cast-next-slot
     next-slot-requires
-    add-i
-    loop-less
+    (λ c. search needs)
+    (λ c. search needs)
     loop-again
     returns)

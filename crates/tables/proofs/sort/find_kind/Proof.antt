@@ -15,23 +15,11 @@ Inv-loop sorts kind number from rows-there i₀ i = (rows-there ≡ count sorts)
 abbrev μ-loop : tie.MeasureT-loop
 μ-loop sorts kind number from rows-there i₀ i = rows-there - i
 
-count-requires : tie.Need-count-requires Inv-loop μ-loop
-count-requires c κs = search needs
-
 loop-holds : tie.Need-loop-holds Inv-loop μ-loop
 loop-holds c = (c .count .ensures, refl)
 
-is-kind-requires : tie.Need-is-kind-requires Inv-loop μ-loop
-is-kind-requires c κs = search needs
-
 returns : tie.Need-returns Inv-loop μ-loop
 returns c = let h = c .before .before .before .loop .inv in sym (h .1 ∙ first-here _ _ _ (omega (arith, h .0)) (sym (c .before .is-kind .ensures) ∙ c .if1 .taken))
-
-add-i : tie.Need-add-i Inv-loop μ-loop
-add-i c = search needs
-
-loop-less : tie.Need-loop-less Inv-loop μ-loop
-loop-less c = search needs
 
 loop-again : tie.Need-loop-again Inv-loop μ-loop
 loop-again c = let h = c .before .before .before .loop .inv in (h .0, h .1 ∙ first-later _ _ _ (omega (arith, h .0)) (sym (c .before .is-kind .ensures) ∙ c .if1 .left))
@@ -45,11 +33,11 @@ find-kind-spec =
     (tie.spec
     Inv-loop
     μ-loop
-    count-requires
+    (λ c κs. search needs)
     loop-holds
-    is-kind-requires
+    (λ c κs. search needs)
     returns
-    add-i
-    loop-less
+    (λ c. search needs)
+    (λ c. search needs)
     loop-again
     returns-2)

@@ -9,14 +9,8 @@ use borrow.Author.Needs.{needs}
 use Rattle.tables.proofs.sort.find_sort.Statement.{statement}
 use Rattle.tables.proofs.sort.find_sort.Tie as tie
 
-key-of-requires : tie.Need-key-of-requires
-key-of-requires c κs = search needs
-
-find-kind-requires : tie.Need-find-kind-requires
-find-kind-requires c κs = search needs
-
 returns : tie.Need-returns
 returns c = let a = c .before .before .before .args in finds-sort (a .sorts .now) (a .wanted) _ (c .find-kind .ensures ∙ ap (λ (k : Key). firstRow (isKind (a .sorts .now) (k .kind) (k .number)) 0 (count (a .sorts .now) - 0)) (c .before .key-of .ensures))
 
 pub find-sort-spec : {M : Type 1} → statement M
-find-sort-spec = tie.close (tie.spec key-of-requires find-kind-requires returns)
+find-sort-spec = tie.close (tie.spec (λ c κs. search needs) (λ c κs. search needs) returns)

@@ -3,23 +3,8 @@ use borrow.Author.Needs.{needs}
 use Rattle.tables.proofs.sort.sort_at.Statement.{statement}
 use Rattle.tables.proofs.sort.sort_at.Tie as tie
 
-count-requires : tie.Need-count-requires
-count-requires c κs = search needs
-
 returns : tie.Need-returns
 returns c = let a = c .before .before .before .args in row-past (a .sorts .now) (a .row) _ (c .before .count .ensures) (c .if1 .taken)
-
-word-requires : tie.Need-word-requires
-word-requires c κs = search needs
-
-word-requires-2 : tie.Need-word-requires-2
-word-requires-2 c κs = search needs
-
-word-requires-3 : tie.Need-word-requires-3
-word-requires-3 c κs = search needs
-
-sort-of-requires : tie.Need-sort-of-requires
-sort-of-requires c κs = search needs
 
 returns-2 : tie.Need-returns-2
 returns-2 c = let a = c .before .before .before .before .before .before .before .args in row-in (a .sorts .now) (a .row) _ (c .before .before .before .before .before .count .ensures) (c .before .before .before .before .if1 .left) _ _ _ _ (c .before .before .before .word .ensures) (c .before .before .word2 .ensures) (c .before .word3 .ensures) (c .sort-of .ensures)
@@ -28,10 +13,10 @@ pub sort-at-spec : {M : Type 1} → statement M
 sort-at-spec =
     tie.close
     (tie.spec
-    count-requires
+    (λ c κs. search needs)
     returns
-    word-requires
-    word-requires-2
-    word-requires-3
-    sort-of-requires
+    (λ c κs. search needs)
+    (λ c κs. search needs)
+    (λ c κs. search needs)
+    (λ c κs. search needs)
     returns-2)

@@ -16,31 +16,15 @@ Inv-loop s start byte at₀ at = start + spanTo byte (drop start s) ≡ at + spa
 abbrev μ-loop : tie.MeasureT-loop
 μ-loop s start byte at₀ at = length s - at
 
--- src/line.rt:18:5
 loop-holds : tie.Need-loop-holds Inv-loop μ-loop
 loop-holds c = refl
 
--- src/line.rt:19:12
-shared-slice-read-if1 : tie.Need-shared-slice-read-if1 Inv-loop μ-loop
-shared-slice-read-if1 c = search needs
-
--- src/line.rt:20:13
 returns : tie.Need-returns Inv-loop μ-loop
 returns c = span-stops (apart (c .before .before .before .before .args .byte)) _ _ _ (c .before .before .before .loop .inv) (c .before .before .loop-test .taken) (parts _ _ (c .if1 .taken))
 
--- src/line.rt:22:9
-add-at : tie.Need-add-at Inv-loop μ-loop
-add-at c = search needs
-
--- src/line.rt:18:5
-loop-less : tie.Need-loop-less Inv-loop μ-loop
-loop-less c = search needs
-
--- src/line.rt:18:5
 loop-again : tie.Need-loop-again Inv-loop μ-loop
 loop-again c = span-goes (apart (c .before .before .before .before .args .byte)) _ _ _ (c .before .before .before .loop .inv) (c .before .before .loop-test .taken) (stays _ _ (c .if1 .left))
 
--- src/line.rt:14:1
 returns-2 : tie.Need-returns-2 Inv-loop μ-loop
 returns-2 c = span-ends (apart (c .before .before .args .byte)) _ _ _ (c .before .loop .inv) (c .loop-test .left)
 
@@ -51,9 +35,9 @@ end-at-spec =
     Inv-loop
     μ-loop
     loop-holds
-    shared-slice-read-if1
+    (λ c. search needs)
     returns
-    add-at
-    loop-less
+    (λ c. search needs)
+    (λ c. search needs)
     loop-again
     returns-2)

@@ -7,13 +7,8 @@ use Rattle.tables_text.proofs.line.starts.Reads as reads
 use Rattle.tables_text.proofs.line.starts.Lts as lts
 use Rattle.arena.proofs.text_is.Reads as text-is-reads
 
--- src/line.rt:10:5
-text-is-requires : tie.Need-text-is-requires
-text-is-requires c κs = search needs
-
--- src/line.rt:7:1
 returns : tie.Need-returns
-returns c = c .text-is .ensures ∙ begins-is (c .before .before .before .args .key .now) (c .before .before .before .args .s .now)
+returns c = let a = c .before .before .before .args in c .text-is .ensures ∙ begins-is (a .key .now) (a .s .now)
 
 pub starts-spec : {M : Type 1} → statement M
-starts-spec = tie.close (tie.spec text-is-requires returns)
+starts-spec = tie.close (tie.spec (λ c κs. search needs) returns)

@@ -16,51 +16,21 @@ Inv-loop s number₀ at₀ number at = digitsFrom number (drop at s) ≡ digitsF
 abbrev μ-loop : tie.MeasureT-loop
 μ-loop s number₀ at₀ number at = length s - at
 
--- src/number.rt:17:5
 loop-holds : tie.Need-loop-holds Inv-loop μ-loop
 loop-holds c = refl
 
--- src/number.rt:18:20
-shared-slice-read-byte : tie.Need-shared-slice-read-byte Inv-loop μ-loop
-shared-slice-read-byte c = search needs
-
--- src/number.rt:20:13
 returns : tie.Need-returns Inv-loop μ-loop
 returns c = digits-below (c .before .before .before .before .args .s .now) _ _ (c .before .before .before .loop .inv) (c .before .before .loop-test .taken) (c .if1 .taken)
 
--- src/number.rt:23:13
 returns-2 : tie.Need-returns-2 Inv-loop μ-loop
 returns-2 c = digits-above (c .before .before .before .before .before .args .s .now) _ _ (c .before .before .before .before .loop .inv) (c .before .before .before .loop-test .taken) (c .if2 .taken)
 
--- src/number.rt:26:13
 returns-3 : tie.Need-returns-3 Inv-loop μ-loop
 returns-3 c = digits-over (c .before .before .before .before .before .before .args .s .now) _ _ (c .before .before .before .before .before .loop .inv) (c .before .before .before .before .loop-test .taken) (c .if3 .taken)
 
--- src/number.rt:28:18
-mul-number : tie.Need-mul-number Inv-loop μ-loop
-mul-number c = search needs
-
--- src/number.rt:28:32
-cast-number : tie.Need-cast-number Inv-loop μ-loop
-cast-number c = search needs
-
--- src/number.rt:28:18
-add-number : tie.Need-add-number Inv-loop μ-loop
-add-number c = search needs
-
--- src/number.rt:29:9
-add-at : tie.Need-add-at Inv-loop μ-loop
-add-at c = search needs
-
--- src/number.rt:17:5
-loop-less : tie.Need-loop-less Inv-loop μ-loop
-loop-less c = search needs
-
--- src/number.rt:17:5
 loop-again : tie.Need-loop-again Inv-loop μ-loop
 loop-again c = digits-step (c .before .before .before .before .before .before .args .s .now) _ _ (c .before .before .before .before .before .loop .inv) (c .before .before .before .before .loop-test .taken) (λ h. omega (arith, c .before .before .if1 .left)) (λ h. omega (arith, c .before .if2 .left)) (λ h. omega (arith, c .if3 .left))
 
--- src/number.rt:12:1
 returns-4 : tie.Need-returns-4 Inv-loop μ-loop
 returns-4 c = digits-end (c .before .before .args .s .now) _ _ (c .before .loop .inv) (c .loop-test .left)
 
@@ -71,14 +41,14 @@ digits-spec =
     Inv-loop
     μ-loop
     loop-holds
-    shared-slice-read-byte
+    (λ c. search needs)
     returns
     returns-2
     returns-3
-    mul-number
-    cast-number
-    add-number
-    add-at
-    loop-less
+    (λ c. search needs)
+    (λ c. search needs)
+    (λ c. search needs)
+    (λ c. search needs)
+    (λ c. search needs)
     loop-again
     returns-4)

@@ -13,83 +13,33 @@ use Rattle.tables_text.proofs.walk.function_rows.Reads as function-rows
 use Rattle.tables_text.proofs.walk.member_rows.Reads as member-rows-reads
 use Rattle.tables_text.proofs.walk.variable_rows.Reads as variable-rows-reads
 
--- src/parse.rt:25:9
 sort-rows-requires : tie.Need-sort-rows-requires
 sort-rows-requires c κs = (c .before .before .before .before .before .before .before .before .pre .sorts, c .before .before .before .before .before .before .before .before .pre .fields)
 
--- src/parse.rt:26:9
 variable-rows-requires : tie.Need-variable-rows-requires
 variable-rows-requires c κs = (within-1 _ _ _ _ (c .before .before .before .before .before .sort-rows .ensures), c .before .before .before .before .before .before .before .before .before .before .before .before .before .before .pre .variables)
 
--- src/parse.rt:27:9
 function-rows-requires : tie.Need-function-rows-requires
 function-rows-requires c κs = (within-2 _ _ _ _ (c .before .before .before .before .before .before .before .before .before .sort-rows .ensures) _ _ (c .before .before .before .variable-rows .ensures), c .before .before .before .before .before .before .before .before .before .before .before .before .before .before .before .before .before .before .pre .functions)
 
--- src/parse.rt:28:9
 member-rows-requires : tie.Need-member-rows-requires
 member-rows-requires c κs = (within-3 _ _ _ _ (c .before .before .before .before .before .before .before .before .before .before .before .before .before .sort-rows .ensures) _ _ (c .before .before .before .before .before .before .before .variable-rows .ensures) _ _ (c .before .before .before .function-rows .ensures), c .before .before .before .before .before .before .before .before .before .before .before .before .before .before .before .before .before .before .before .before .before .before .pre .members)
 
--- src/parse.rt:30:9
-same-length : tie.Need-same-length
-same-length c = search needs
-
--- src/parse.rt:30:9
-same-length-2 : tie.Need-same-length-2
-same-length-2 c = search needs
-
--- src/parse.rt:30:9
-same-length-3 : tie.Need-same-length-3
-same-length-3 c = search needs
-
--- src/parse.rt:30:9
-same-length-4 : tie.Need-same-length-4
-same-length-4 c = search needs
-
--- src/parse.rt:30:9
-same-length-5 : tie.Need-same-length-5
-same-length-5 c = search needs
-
--- src/parse.rt:30:9
 returns : tie.Need-returns
 returns c = parses-other _ _ _ _ (c .before .before .before .before .before .before .before .before .before .before .before .before .before .before .before .before .before .before .sort-rows .ensures) _ _ (c .before .before .before .before .before .before .before .before .before .before .before .before .variable-rows .ensures) _ _ (c .before .before .before .before .before .before .before .before .function-rows .ensures) _ _ (c .before .before .before .before .member-rows .ensures) (c .if1 .taken)
 
--- src/parse.rt:33:16
 mul-t21 : tie.Need-mul-t21
 mul-t21 c = omega (arith, sorts-few _ _ _ _ (c .before .before .before .before .before .before .before .before .before .before .before .before .before .before .before .before .before .before .before .sort-rows .ensures))
 
--- src/parse.rt:35:20
 mul-t23 : tie.Need-mul-t23
 mul-t23 c = omega (arith, rows-few variableIn variableLine variableWords _ _ _ _ (c .before .before .before .before .before .before .before .before .before .before .before .before .before .before .variable-rows .ensures))
 
--- src/parse.rt:36:20
 mul-t24 : tie.Need-mul-t24
 mul-t24 c = omega (arith, rows-few functionIn functionLine functionWords _ _ _ _ (c .before .before .before .before .before .before .before .before .before .before .before .function-rows .ensures))
 
--- src/parse.rt:37:18
 mul-t25 : tie.Need-mul-t25
 mul-t25 c = omega (arith, rows-few memberIn memberLine memberWords _ _ _ _ (c .before .before .before .before .before .before .before .before .member-rows .ensures))
 
--- src/parse.rt:21:1
-same-length-6 : tie.Need-same-length-6
-same-length-6 c = search needs
-
--- src/parse.rt:21:1
-same-length-7 : tie.Need-same-length-7
-same-length-7 c = search needs
-
--- src/parse.rt:21:1
-same-length-8 : tie.Need-same-length-8
-same-length-8 c = search needs
-
--- src/parse.rt:21:1
-same-length-9 : tie.Need-same-length-9
-same-length-9 c = search needs
-
--- src/parse.rt:21:1
-same-length-10 : tie.Need-same-length-10
-same-length-10 c = search needs
-
--- src/parse.rt:21:1
 returns-2 : tie.Need-returns-2
 returns-2 c = parses-rows _ _ _ _ (c .before .before .before .before .before .before .before .before .before .before .before .before .before .before .before .before .before .before .before .before .before .before .sort-rows .ensures) _ _ (c .before .before .before .before .before .before .before .before .before .before .before .before .before .before .before .before .variable-rows .ensures) _ _ (c .before .before .before .before .before .before .before .before .before .before .before .before .function-rows .ensures) _ _ (c .before .before .before .before .before .before .before .before .member-rows .ensures) (c .before .before .before .before .if1 .left)
 
@@ -101,19 +51,19 @@ parse-rows-spec =
     variable-rows-requires
     function-rows-requires
     member-rows-requires
-    same-length
-    same-length-2
-    same-length-3
-    same-length-4
-    same-length-5
+    (λ c. search needs)
+    (λ c. search needs)
+    (λ c. search needs)
+    (λ c. search needs)
+    (λ c. search needs)
     returns
     mul-t21
     mul-t23
     mul-t24
     mul-t25
-    same-length-6
-    same-length-7
-    same-length-8
-    same-length-9
-    same-length-10
+    (λ c. search needs)
+    (λ c. search needs)
+    (λ c. search needs)
+    (λ c. search needs)
+    (λ c. search needs)
     returns-2)

@@ -10,59 +10,24 @@ use Rattle.tables_text.proofs.line.starts.Reads as starts-reads
 use Rattle.tables_text.proofs.sort.named_form.Reads as named-form-reads
 use Rattle.tables_text.proofs.sort.numbered_sort.Reads as numbered-sort-reads
 
--- src/sort.rt:60:18
-slice-aggregate-starts : tie.Need-slice-aggregate-starts
-slice-aggregate-starts c = search needs
-
--- src/sort.rt:60:8
-starts-requires : tie.Need-starts-requires
-starts-requires c κs = search needs
-
--- src/sort.rt:61:9
 numbered-sort-requires : tie.Need-numbered-sort-requires
 numbered-sort-requires c κs = begins-long (bytes "sort=bitvec ") (c .before .before .before .before .args .s .now) (yes (c .before .starts .ensures) (c .if1 .taken))
 
--- src/sort.rt:61:9
 returns : tie.Need-returns
 returns c = form-bits (c .before .before .before .before .before .args .s .now) _ (yes (c .before .before .starts .ensures) (c .before .if1 .taken)) (c .numbered-sort .ensures)
 
--- src/sort.rt:63:18
-slice-aggregate-starts-2 : tie.Need-slice-aggregate-starts-2
-slice-aggregate-starts-2 c = search needs
-
--- src/sort.rt:63:8
-starts-requires-2 : tie.Need-starts-requires-2
-starts-requires-2 c κs = search needs
-
--- src/sort.rt:64:9
 numbered-sort-requires-2 : tie.Need-numbered-sort-requires-2
 numbered-sort-requires-2 c κs = begins-long (bytes "sort=option ") (c .before .before .before .before .before .before .before .args .s .now) (yes (c .before .starts2 .ensures) (c .if2 .taken))
 
--- src/sort.rt:64:9
 returns-2 : tie.Need-returns-2
 returns-2 c = form-option (c .before .before .before .before .before .before .before .before .args .s .now) _ (no (c .before .before .before .before .before .starts .ensures) (c .before .before .before .before .if1 .left)) (yes (c .before .before .starts2 .ensures) (c .before .if2 .taken)) (c .numbered-sort2 .ensures)
 
--- src/sort.rt:66:18
-slice-aggregate-starts-3 : tie.Need-slice-aggregate-starts-3
-slice-aggregate-starts-3 c = search needs
-
--- src/sort.rt:66:8
-starts-requires-3 : tie.Need-starts-requires-3
-starts-requires-3 c κs = search needs
-
--- src/sort.rt:67:9
 numbered-sort-requires-3 : tie.Need-numbered-sort-requires-3
 numbered-sort-requires-3 c κs = begins-long (bytes "sort=set ") (c .before .before .before .before .before .before .before .before .before .before .args .s .now) (yes (c .before .starts3 .ensures) (c .if3 .taken))
 
--- src/sort.rt:67:9
 returns-3 : tie.Need-returns-3
 returns-3 c = form-set (c .before .before .before .before .before .before .before .before .before .before .before .args .s .now) _ (no (c .before .before .before .before .before .before .before .before .starts .ensures) (c .before .before .before .before .before .before .before .if1 .left)) (no (c .before .before .before .before .before .starts2 .ensures) (c .before .before .before .before .if2 .left)) (yes (c .before .before .starts3 .ensures) (c .before .if3 .taken)) (c .numbered-sort3 .ensures)
 
--- src/sort.rt:69:5
-named-form-requires : tie.Need-named-form-requires
-named-form-requires c κs = search needs
-
--- src/sort.rt:57:1
 returns-4 : tie.Need-returns-4
 returns-4 c = form-named (c .before .before .before .before .before .before .before .before .before .before .before .args .s .now) _ (no (c .before .before .before .before .before .before .before .before .starts .ensures) (c .before .before .before .before .before .before .before .if1 .left)) (no (c .before .before .before .before .before .starts2 .ensures) (c .before .before .before .before .if2 .left)) (no (c .before .before .starts3 .ensures) (c .before .if3 .left)) (c .named-form .ensures)
 
@@ -70,17 +35,17 @@ pub numbered-form-spec : {M : Type 1} → statement M
 numbered-form-spec =
     tie.close
     (tie.spec
-    slice-aggregate-starts
-    starts-requires
+    (λ c. search needs)
+    (λ c κs. search needs)
     numbered-sort-requires
     returns
-    slice-aggregate-starts-2
-    starts-requires-2
+    (λ c. search needs)
+    (λ c κs. search needs)
     numbered-sort-requires-2
     returns-2
-    slice-aggregate-starts-3
-    starts-requires-3
+    (λ c. search needs)
+    (λ c κs. search needs)
     numbered-sort-requires-3
     returns-3
-    named-form-requires
+    (λ c κs. search needs)
     returns-4)

@@ -18,89 +18,35 @@ Inv-loop s fields₀ before first at₀ count₀ fields at count = Fielding s fi
 abbrev μ-loop : tie.MeasureT-loop
 μ-loop s fields₀ before first at₀ count₀ fields at count = length s - at
 
--- src/sort.rt:98:9
-end-at-requires : tie.Need-end-at-requires Inv-loop μ-loop
-end-at-requires c κs = search needs
-
--- src/sort.rt:101:5
 loop-holds : tie.Need-loop-holds Inv-loop μ-loop
-loop-holds c = fielding-start (c .before .before .before .args .s .now) (c .before .before .before .args .fields .now) (c .before .before .before .args .before) _ (c .before .before .before .pre .0) (c .end-at .ensures) (c .before .before .before .pre .1)
+loop-holds c = let a = c .before .before .before .args in fielding-start (a .s .now) (a .fields .now) (a .before) _ (c .before .before .before .pre .0) (c .end-at .ensures) (c .before .before .before .pre .1)
 
--- src/sort.rt:102:20
-add-from : tie.Need-add-from Inv-loop μ-loop
-add-from c = search needs
-
--- src/sort.rt:103:13
-end-at-requires-2 : tie.Need-end-at-requires-2 Inv-loop μ-loop
-end-at-requires-2 c κs = search needs
-
--- src/sort.rt:104:31
-sub-number-in : tie.Need-sub-number-in Inv-loop μ-loop
-sub-number-in c = search needs
-
--- src/sort.rt:104:31
-part-number-in-start : tie.Need-part-number-in-start Inv-loop μ-loop
-part-number-in-start c = search needs
-
--- src/sort.rt:104:31
 part-number-in-end : tie.Need-part-number-in-end Inv-loop μ-loop
 part-number-in-end c = end-le space (c .before .before .before .before .before .before .args .s .now) _ _ (omega (arith, c .before .loop-test .taken)) (c .end-at2 .ensures)
 
--- src/sort.rt:104:13
-number-in-requires : tie.Need-number-in-requires Inv-loop μ-loop
-number-in-requires c κs = search needs
-
--- src/sort.rt:105:24
-enum-known-found : tie.Need-enum-known-found Inv-loop μ-loop
-enum-known-found c = search needs
-
--- src/sort.rt:106:13
-enum-told : tie.Need-enum-told Inv-loop μ-loop
-enum-told c = search needs
-
--- src/sort.rt:106:13
 same-length : tie.Need-same-length Inv-loop μ-loop
 same-length c = c .before .before .before .before .before .before .loop .inv .long
 
--- src/sort.rt:106:13
 returns : tie.Need-returns Inv-loop μ-loop
-returns c = fielding-other (c .before .before .before .before .before .before .before .before .before .before .args .s .now) (c .before .before .before .before .before .before .before .before .before .before .args .fields .now) (c .before .before .before .before .before .before .before .before .before .before .args .before) _ (c .before .before .before .before .before .before .before .before .before .before .pre .0) (c .before .before .before .before .before .before .before .end-at .ensures) _ _ _ (c .before .before .before .before .before .before .loop .inv) (c .before .before .before .before .before .loop-test .taken) _ (c .before .before .before .before .end-at2 .ensures) _ (c .before .before .number-in .ensures) (c .enum-told .given .1)
+returns c = let a = c .before .before .before .before .before .before .before .before .before .before .args in fielding-other (a .s .now) (a .fields .now) (a .before) _ (c .before .before .before .before .before .before .before .before .before .before .pre .0) (c .before .before .before .before .before .before .before .end-at .ensures) _ _ _ (c .before .before .before .before .before .before .loop .inv) (c .before .before .before .before .before .loop-test .taken) _ (c .before .before .before .before .end-at2 .ensures) _ (c .before .before .number-in .ensures) (c .enum-told .given .1)
 
--- src/sort.rt:108:16
 add-fields : tie.Need-add-fields Inv-loop μ-loop
-add-fields c = omega (arith, fielding-room (c .before .before .before .before .before .before .before .before .before .before .before .args .s .now) (c .before .before .before .before .before .before .before .before .before .before .before .args .fields .now) (c .before .before .before .before .before .before .before .before .before .before .before .args .before) _ (c .before .before .before .before .before .before .before .before .before .before .before .pre .0) (c .before .before .before .before .before .before .before .before .end-at .ensures) _ _ _ (c .before .before .before .before .before .before .before .loop .inv) (c .before .before .before .before .before .before .loop-test .taken) _ (c .before .before .before .before .before .end-at2 .ensures) _ (c .before .before .before .number-in .ensures) _ (c .before .found .given .1))
+add-fields c = let a = c .before .before .before .before .before .before .before .before .before .before .before .args in omega (arith, fielding-room (a .s .now) (a .fields .now) (a .before) _ (c .before .before .before .before .before .before .before .before .before .before .before .pre .0) (c .before .before .before .before .before .before .before .before .end-at .ensures) _ _ _ (c .before .before .before .before .before .before .before .loop .inv) (c .before .before .before .before .before .before .loop-test .taken) _ (c .before .before .before .before .before .end-at2 .ensures) _ (c .before .before .before .number-in .ensures) _ (c .before .found .given .1))
 
--- src/sort.rt:108:9
-mul-fields : tie.Need-mul-fields Inv-loop μ-loop
-mul-fields c = search needs
-
--- src/sort.rt:108:9
 slice-write-fields : tie.Need-slice-write-fields Inv-loop μ-loop
-slice-write-fields c = fielding-room (c .before .before .before .before .before .before .before .before .before .before .before .args .s .now) (c .before .before .before .before .before .before .before .before .before .before .before .args .fields .now) (c .before .before .before .before .before .before .before .before .before .before .before .args .before) _ (c .before .before .before .before .before .before .before .before .before .before .before .pre .0) (c .before .before .before .before .before .before .before .before .end-at .ensures) _ _ _ (c .before .before .before .before .before .before .before .loop .inv) (c .before .before .before .before .before .before .loop-test .taken) _ (c .before .before .before .before .before .end-at2 .ensures) _ (c .before .before .before .number-in .ensures) _ (c .before .found .given .1)
+slice-write-fields c = let a = c .before .before .before .before .before .before .before .before .before .before .before .args in fielding-room (a .s .now) (a .fields .now) (a .before) _ (c .before .before .before .before .before .before .before .before .before .before .before .pre .0) (c .before .before .before .before .before .before .before .before .end-at .ensures) _ _ _ (c .before .before .before .before .before .before .before .loop .inv) (c .before .before .before .before .before .before .loop-test .taken) _ (c .before .before .before .before .before .end-at2 .ensures) _ (c .before .before .before .number-in .ensures) _ (c .before .found .given .1)
 
--- src/sort.rt:109:9
-add-count : tie.Need-add-count Inv-loop μ-loop
-add-count c = search needs
-
--- src/sort.rt:101:5
 loop-less : tie.Need-loop-less Inv-loop μ-loop
-loop-less c = omega (arith, fielding-on (c .before .before .before .before .before .before .before .before .before .before .before .args .s .now) (c .before .before .before .before .before .before .before .before .before .before .before .args .fields .now) (c .before .before .before .before .before .before .before .before .before .before .before .args .before) _ (c .before .before .before .before .before .before .before .before .before .before .before .pre .0) (c .before .before .before .before .before .before .before .before .end-at .ensures) _ _ _ (c .before .before .before .before .before .before .before .loop .inv) (c .before .before .before .before .before .before .loop-test .taken) _ (c .before .before .before .before .before .end-at2 .ensures) _ (c .before .before .before .number-in .ensures) _ (c .before .found .given .1), c .before .before .before .before .before .before .loop-test .taken)
+loop-less c = let a = c .before .before .before .before .before .before .before .before .before .before .before .args in omega (arith, fielding-on (a .s .now) (a .fields .now) (a .before) _ (c .before .before .before .before .before .before .before .before .before .before .before .pre .0) (c .before .before .before .before .before .before .before .before .end-at .ensures) _ _ _ (c .before .before .before .before .before .before .before .loop .inv) (c .before .before .before .before .before .before .loop-test .taken) _ (c .before .before .before .before .before .end-at2 .ensures) _ (c .before .before .before .number-in .ensures) _ (c .before .found .given .1), c .before .before .before .before .before .before .loop-test .taken)
 
--- src/sort.rt:101:5
 loop-again : tie.Need-loop-again Inv-loop μ-loop
-loop-again c = fielding-step (c .before .before .before .before .before .before .before .before .before .before .before .args .s .now) (c .before .before .before .before .before .before .before .before .before .before .before .args .fields .now) (c .before .before .before .before .before .before .before .before .before .before .before .args .before) _ (c .before .before .before .before .before .before .before .before .before .before .before .pre .0) (c .before .before .before .before .before .before .before .before .end-at .ensures) _ _ _ (c .before .before .before .before .before .before .before .loop .inv) (c .before .before .before .before .before .before .loop-test .taken) _ (c .before .before .before .before .before .end-at2 .ensures) _ (c .before .before .before .number-in .ensures) _ (c .before .found .given .1)
+loop-again c = let a = c .before .before .before .before .before .before .before .before .before .before .before .args in fielding-step (a .s .now) (a .fields .now) (a .before) _ (c .before .before .before .before .before .before .before .before .before .before .before .pre .0) (c .before .before .before .before .before .before .before .before .end-at .ensures) _ _ _ (c .before .before .before .before .before .before .before .loop .inv) (c .before .before .before .before .before .before .loop-test .taken) _ (c .before .before .before .before .before .end-at2 .ensures) _ (c .before .before .before .number-in .ensures) _ (c .before .found .given .1)
 
--- src/sort.rt:112:29
-sub-t18 : tie.Need-sub-t18 Inv-loop μ-loop
-sub-t18 c = search needs
-
--- src/sort.rt:94:1
 same-length-2 : tie.Need-same-length-2 Inv-loop μ-loop
 same-length-2 c = c .before .loop .inv .long
 
--- src/sort.rt:94:1
 returns-2 : tie.Need-returns-2 Inv-loop μ-loop
-returns-2 c = fielding-end (c .before .before .before .before .before .args .s .now) (c .before .before .before .before .before .args .fields .now) (c .before .before .before .before .before .args .before) _ (c .before .before .before .before .before .pre .0) (c .before .before .end-at .ensures) _ _ _ (c .before .loop .inv) (c .loop-test .left)
+returns-2 c = let a = c .before .before .before .before .before .args in fielding-end (a .s .now) (a .fields .now) (a .before) _ (c .before .before .before .before .before .pre .0) (c .before .before .end-at .ensures) _ _ _ (c .before .loop .inv) (c .loop-test .left)
 
 pub record-in-spec : {M : Type 1} → statement M
 record-in-spec =
@@ -108,24 +54,24 @@ record-in-spec =
     (tie.spec
     Inv-loop
     μ-loop
-    end-at-requires
+    (λ c κs. search needs)
     loop-holds
-    add-from
-    end-at-requires-2
-    sub-number-in
-    part-number-in-start
+    (λ c. search needs)
+    (λ c κs. search needs)
+    (λ c. search needs)
+    (λ c. search needs)
     part-number-in-end
-    number-in-requires
-    enum-known-found
-    enum-told
+    (λ c κs. search needs)
+    (λ c. search needs)
+    (λ c. search needs)
     same-length
     returns
     add-fields
-    mul-fields
+    (λ c. search needs)
     slice-write-fields
-    add-count
+    (λ c. search needs)
     loop-less
     loop-again
-    sub-t18
+    (λ c. search needs)
     same-length-2
     returns-2)

@@ -13,43 +13,18 @@ Inv-loop words out₀ at₀ out at = Copying words out₀ out at
 abbrev μ-loop : tie.MeasureT-loop
 μ-loop words out₀ at₀ out at = length words - at
 
--- src/store.rt:17:5
 loop-holds : tie.Need-loop-holds Inv-loop μ-loop
 loop-holds c = copying-start _ _ (c .pre)
 
--- src/store.rt:18:19
-mul-out : tie.Need-mul-out Inv-loop μ-loop
-mul-out c = search needs
-
--- src/store.rt:18:19
-shared-slice-read-out : tie.Need-shared-slice-read-out Inv-loop μ-loop
-shared-slice-read-out c = search needs
-
--- src/store.rt:18:9
-mul-out-2 : tie.Need-mul-out-2 Inv-loop μ-loop
-mul-out-2 c = search needs
-
--- src/store.rt:18:9
 slice-write-out : tie.Need-slice-write-out Inv-loop μ-loop
 slice-write-out c = copying-within _ _ _ _ (c .before .before .loop .inv) (c .before .loop-test .taken)
 
--- src/store.rt:19:9
-add-at : tie.Need-add-at Inv-loop μ-loop
-add-at c = search needs
-
--- src/store.rt:17:5
-loop-less : tie.Need-loop-less Inv-loop μ-loop
-loop-less c = search needs
-
--- src/store.rt:17:5
 loop-again : tie.Need-loop-again Inv-loop μ-loop
 loop-again c = copying-step _ _ _ _ (c .before .before .loop .inv) (c .before .loop-test .taken)
 
--- src/store.rt:12:1
 same-length : tie.Need-same-length Inv-loop μ-loop
 same-length c = c .before .loop .inv .long
 
--- src/store.rt:12:1
 returns : tie.Need-returns Inv-loop μ-loop
 returns c = copying-end _ _ _ _ (c .before .loop .inv) (c .loop-test .left) .holds
 
@@ -60,12 +35,12 @@ copy-words-spec =
     Inv-loop
     μ-loop
     loop-holds
-    mul-out
-    shared-slice-read-out
-    mul-out-2
+    (λ c. search needs)
+    (λ c. search needs)
+    (λ c. search needs)
     slice-write-out
-    add-at
-    loop-less
+    (λ c. search needs)
+    (λ c. search needs)
     loop-again
     same-length
     returns)

@@ -19,49 +19,26 @@ Inv-loop text start table₀ at₀ row₀ table at row = Walking variableIn vari
 abbrev μ-loop : tie.MeasureT-loop
 μ-loop text start table₀ at₀ row₀ table at row = rowLimit - row
 
--- src/walk.rt:70:5
 loop-holds : tie.Need-loop-holds Inv-loop μ-loop
 loop-holds c = walking-start variableIn variableLine variableWords variable-sound (c .before .before .args .text .now) (c .before .before .args .table .now) _ (c .before .before .pre .0)
 
--- src/walk.rt:71:13
 variable-line-requires : tie.Need-variable-line-requires Inv-loop μ-loop
-variable-line-requires c κs = (c .before .before .loop .inv .within, walking-room variableIn variableLine variableWords variable-sound (λ at x. refl) (c .before .before .before .before .before .args .text .now) (c .before .before .before .before .before .args .table .now) _ _ _ _ (c .before .before .loop .inv) (c .before .before .before .before .before .pre .1) (c .before .loop-test .taken))
+variable-line-requires c κs = let a = c .before .before .before .before .before .args in (c .before .before .loop .inv .within, walking-room variableIn variableLine variableWords variable-sound (λ at x. refl) (a .text .now) (a .table .now) _ _ _ _ (c .before .before .loop .inv) (c .before .before .before .before .before .pre .1) (c .before .loop-test .taken))
 
--- src/walk.rt:72:24
-enum-known-line : tie.Need-enum-known-line Inv-loop μ-loop
-enum-known-line c = search needs
-
--- src/walk.rt:73:13
-enum-told : tie.Need-enum-told Inv-loop μ-loop
-enum-told c = search needs
-
--- src/walk.rt:73:13
 same-length : tie.Need-same-length Inv-loop μ-loop
-same-length c = walking-long variableIn variableLine variableWords variable-sound (λ at x. refl) (c .before .before .before .before .before .before .before .before .before .before .args .text .now) (c .before .before .before .before .before .before .before .before .before .before .args .table .now) _ _ _ _ (c .before .before .before .before .before .before .before .loop .inv) (c .before .before .before .before .before .before .before .before .before .before .pre .1) (c .before .before .before .before .before .before .loop-test .taken) _ _ (c .before .before .before .before .variable-line .ensures)
+same-length c = let a = c .before .before .before .before .before .before .before .before .before .before .args in walking-long variableIn variableLine variableWords variable-sound (λ at x. refl) (a .text .now) (a .table .now) _ _ _ _ (c .before .before .before .before .before .before .before .loop .inv) (c .before .before .before .before .before .before .before .before .before .before .pre .1) (c .before .before .before .before .before .before .loop-test .taken) _ _ (c .before .before .before .before .variable-line .ensures)
 
--- src/walk.rt:73:13
 returns : tie.Need-returns Inv-loop μ-loop
-returns c = walking-stop variableIn variableLine variableWords variable-sound (λ at x. refl) (c .before .before .before .before .before .before .before .before .before .before .args .text .now) (c .before .before .before .before .before .before .before .before .before .before .args .table .now) _ _ _ _ (c .before .before .before .before .before .before .before .loop .inv) (c .before .before .before .before .before .before .before .before .before .before .pre .1) (c .before .before .before .before .before .before .loop-test .taken) _ _ (c .before .before .before .before .variable-line .ensures) (c .enum-told .given .1)
+returns c = let a = c .before .before .before .before .before .before .before .before .before .before .args in walking-stop variableIn variableLine variableWords variable-sound (λ at x. refl) (a .text .now) (a .table .now) _ _ _ _ (c .before .before .before .before .before .before .before .loop .inv) (c .before .before .before .before .before .before .before .before .before .before .pre .1) (c .before .before .before .before .before .before .loop-test .taken) _ _ (c .before .before .before .before .variable-line .ensures) (c .enum-told .given .1)
 
--- src/walk.rt:76:9
-add-row : tie.Need-add-row Inv-loop μ-loop
-add-row c = search needs
-
--- src/walk.rt:70:5
-loop-less : tie.Need-loop-less Inv-loop μ-loop
-loop-less c = search needs
-
--- src/walk.rt:70:5
 loop-again : tie.Need-loop-again Inv-loop μ-loop
-loop-again c = walking-step variableIn variableLine variableWords variable-sound (λ at x. refl) (c .before .before .before .before .before .before .before .before .before .before .before .args .text .now) (c .before .before .before .before .before .before .before .before .before .before .before .args .table .now) _ _ _ _ (c .before .before .before .before .before .before .before .before .loop .inv) (c .before .before .before .before .before .before .before .before .before .before .before .pre .1) (c .before .before .before .before .before .before .before .loop-test .taken) _ _ (c .before .before .before .before .before .variable-line .ensures) _ (c .before .line .given .1)
+loop-again c = let a = c .before .before .before .before .before .before .before .before .before .before .before .args in walking-step variableIn variableLine variableWords variable-sound (λ at x. refl) (a .text .now) (a .table .now) _ _ _ _ (c .before .before .before .before .before .before .before .before .loop .inv) (c .before .before .before .before .before .before .before .before .before .before .before .pre .1) (c .before .before .before .before .before .before .before .loop-test .taken) _ _ (c .before .before .before .before .before .variable-line .ensures) _ (c .before .line .given .1)
 
--- src/walk.rt:64:1
 same-length-2 : tie.Need-same-length-2 Inv-loop μ-loop
 same-length-2 c = c .before .loop .inv .long
 
--- src/walk.rt:64:1
 returns-2 : tie.Need-returns-2 Inv-loop μ-loop
-returns-2 c = walking-full variableIn variableLine variableWords variable-sound (λ at x. refl) (c .before .before .before .before .args .text .now) (c .before .before .before .before .args .table .now) _ _ _ _ (c .before .loop .inv) (c .before .before .before .before .pre .1) (c .loop-test .left)
+returns-2 c = let a = c .before .before .before .before .args in walking-full variableIn variableLine variableWords variable-sound (λ at x. refl) (a .text .now) (a .table .now) _ _ _ _ (c .before .loop .inv) (c .before .before .before .before .pre .1) (c .loop-test .left)
 
 pub variable-rows-spec : {M : Type 1} → statement M
 variable-rows-spec =
@@ -71,12 +48,12 @@ variable-rows-spec =
     μ-loop
     loop-holds
     variable-line-requires
-    enum-known-line
-    enum-told
+    (λ c. search needs)
+    (λ c. search needs)
     same-length
     returns
-    add-row
-    loop-less
+    (λ c. search needs)
+    (λ c. search needs)
     loop-again
     same-length-2
     returns-2)

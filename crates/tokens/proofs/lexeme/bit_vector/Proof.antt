@@ -7,25 +7,17 @@ use Rattle.tokens.proofs.lexeme.bit_vector.Reads as reads
 use Rattle.tokens.proofs.lexeme.bit_vector.Lts as lts
 use Rattle.tokens.proofs.lexeme.run_end.Reads as run-end-reads
 
--- src/lexeme.rt:108:9
-run-end-requires : tie.Need-run-end-requires
-run-end-requires c κs = search needs
-
--- src/lexeme.rt:112:15
 sub-t6 : tie.Need-sub-t6
 sub-t6 c = omega (arith, run-inside (c .before .before .args .s .now) (c .before .before .args .start) _ (c .before .before .args .radix) (c .before .before .pre) (c .run-end .ensures))
 
--- src/lexeme.rt:113:21
 sub-t7 : tie.Need-sub-t7
 sub-t7 c = omega (arith, run-inside (c .before .before .args .s .now) (c .before .before .args .start) _ (c .before .before .args .radix) (c .before .before .pre) (c .run-end .ensures))
 
--- src/lexeme.rt:113:16
 add-t8 : tie.Need-add-t8
 add-t8 c = record { fits = omega (arith, run-inside (c .before .before .args .s .now) (c .before .before .args .start) _ (c .before .before .args .radix) (c .before .before .pre) (c .run-end .ensures)) }
 
--- src/lexeme.rt:104:1
 returns : tie.Need-returns
 returns c = vector-is (c .before .before .args .s .now) (c .before .before .args .start) _ (c .before .before .args .radix) (c .before .before .pre) (c .run-end .ensures)
 
 pub bit-vector-spec : {M : Type 1} → statement M
-bit-vector-spec = tie.close (tie.spec run-end-requires sub-t6 sub-t7 add-t8 returns)
+bit-vector-spec = tie.close (tie.spec (λ c κs. search needs) sub-t6 sub-t7 add-t8 returns)

@@ -7,25 +7,11 @@ use Rattle.told.proofs.answer.code.Lts as lts
 use Rattle.refusals.proofs.Refusal.detail.Reads as detail-reads
 use Rattle.refusals.proofs.Refusal.number.Reads as number-reads
 
--- src/answer.rt:20:9
-number-requires : tie.Need-number-requires
-number-requires c κs = search needs
-
--- src/answer.rt:21:18
-detail-requires : tie.Need-detail-requires
-detail-requires c κs = search needs
-
--- src/answer.rt:22:14
-mul-result : tie.Need-mul-result
-mul-result c = search needs
-
--- src/answer.rt:22:5
 add-result : tie.Need-add-result
 add-result c = record { fits = code-fits (c .before .before .args .why) _ _ (c .before .number .ensures) }
 
--- src/answer.rt:17:1
 returns : tie.Need-returns
 returns c = code-is _ _ _ (c .before .number .ensures) (c .detail .ensures)
 
 pub code-spec : {M : Type 1} → statement M
-code-spec = tie.close (tie.spec number-requires detail-requires mul-result add-result returns)
+code-spec = tie.close (tie.spec (λ c κs. search needs) (λ c κs. search needs) (λ c. search needs) add-result returns)

@@ -17,39 +17,18 @@ Inv-loop out₀ start end rest₀ at₀ out rest at = Putting hex (value rest₀
 abbrev μ-loop : tie.MeasureT-loop
 μ-loop out₀ start end rest₀ at₀ out rest at = at - start
 
--- src/hex.rt:81:5
 loop-holds : tie.Need-loop-holds Inv-loop μ-loop
 loop-holds c = putting-start hex _ _ _ _ (c .before .pre .0)
 
--- src/hex.rt:82:9
-sub-at : tie.Need-sub-at Inv-loop μ-loop
-sub-at c = search needs
-
--- src/hex.rt:83:19
-last-digit-requires : tie.Need-last-digit-requires Inv-loop μ-loop
-last-digit-requires c κs = search needs
-
--- src/hex.rt:83:9
 slice-write-out : tie.Need-slice-write-out Inv-loop μ-loop
 slice-write-out c = put-within hex _ _ _ _ _ _ _ (c .before .before .loop .inv) (c .before .before .before .before .pre .1) (c .before .loop-test .taken)
 
--- src/hex.rt:84:9
-shortened-requires : tie.Need-shortened-requires Inv-loop μ-loop
-shortened-requires c κs = search needs
-
--- src/hex.rt:81:5
-loop-less : tie.Need-loop-less Inv-loop μ-loop
-loop-less c = search needs
-
--- src/hex.rt:81:5
 loop-again : tie.Need-loop-again Inv-loop μ-loop
 loop-again c = hex-step _ _ _ _ _ _ _ (c .before .before .before .loop .inv) (c .before .before .before .before .before .pre .1) (c .before .before .loop-test .taken) _ _ (c .before .last-digit .ensures) (c .shortened .ensures)
 
--- src/hex.rt:75:1
 same-length : tie.Need-same-length Inv-loop μ-loop
 same-length c = c .before .loop .inv .long
 
--- src/hex.rt:75:1
 returns : tie.Need-returns Inv-loop μ-loop
 returns c = hex-end _ _ _ _ _ _ _ (c .before .loop .inv) (c .loop-test .left)
 
@@ -60,11 +39,11 @@ put-digits-spec =
     Inv-loop
     μ-loop
     loop-holds
-    sub-at
-    last-digit-requires
+    (λ c. search needs)
+    (λ c κs. search needs)
     slice-write-out
-    shortened-requires
-    loop-less
+    (λ c κs. search needs)
+    (λ c. search needs)
     loop-again
     same-length
     returns)

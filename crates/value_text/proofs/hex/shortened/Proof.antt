@@ -5,17 +5,11 @@ use Rattle.value_text.proofs.hex.shortened.Tie as tie
 use Rattle.value_text.proofs.hex.shortened.Reads as reads
 use Rattle.value_text.proofs.hex.shortened.Lts as lts
 
--- src/hex.rt:63:25
-mul-t6 : tie.Need-mul-t6
-mul-t6 c = search needs
-
--- src/hex.rt:63:14
 add-t7 : tie.Need-add-t7
 add-t7 c = record { fits = shorter-fits (c .args .number .low) (c .args .number .high) (search needs) }
 
--- src/hex.rt:57:1
 returns : tie.Need-returns
 returns c = shorter (c .args .number .low) (c .args .number .high)
 
 pub shortened-spec : {M : Type 1} → statement M
-shortened-spec = tie.close (tie.spec mul-t6 add-t7 returns)
+shortened-spec = tie.close (tie.spec (λ c. search needs) add-t7 returns)

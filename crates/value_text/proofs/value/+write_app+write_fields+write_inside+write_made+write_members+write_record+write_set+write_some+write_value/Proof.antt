@@ -175,7 +175,6 @@ abbrev write-value-below : ℕ → In 7 write-value-kinds.ps
 write-value-below t =
     and 7 write-value-kinds.ps (falls 7 write-value-kinds.ps _<_ μ-write-value t) write-value.Pre
 
--- src/value.rt:345:9
 write-app-shape-at-requires : (t : ℕ) → write-app-lts.Need-shape-at-requires (
   shape-at-reads.Asked,
   shape-at-reads.Learnt,
@@ -194,7 +193,6 @@ write-app-shape-at-requires : (t : ℕ) → write-app-lts.Need-shape-at-requires
 ) (write-app-at t) write-app.Post
 write-app-shape-at-requires t c κs = search needs
 
--- src/value.rt:347:28
 write-app-enum-told : (t : ℕ) → write-app-lts.Need-enum-told (
   shape-at-reads.Asked,
   shape-at-reads.Learnt,
@@ -213,7 +211,6 @@ write-app-enum-told : (t : ℕ) → write-app-lts.Need-enum-told (
 ) (write-app-at t) write-app.Post
 write-app-enum-told t c = search needs
 
--- src/value.rt:348:42
 write-app-enum-told-2 : (t : ℕ) → write-app-lts.Need-enum-told-2 (
   shape-at-reads.Asked,
   shape-at-reads.Learnt,
@@ -232,7 +229,6 @@ write-app-enum-told-2 : (t : ℕ) → write-app-lts.Need-enum-told-2 (
 ) (write-app-at t) write-app.Post
 write-app-enum-told-2 t c = search needs
 
--- src/value.rt:348:42
 write-app-slice-aggregate-put : (t : ℕ) → write-app-lts.Need-slice-aggregate-put (
   shape-at-reads.Asked,
   shape-at-reads.Learnt,
@@ -251,7 +247,6 @@ write-app-slice-aggregate-put : (t : ℕ) → write-app-lts.Need-slice-aggregate
 ) (write-app-at t) write-app.Post
 write-app-slice-aggregate-put t c = search needs
 
--- src/value.rt:348:38
 write-app-put-requires : (t : ℕ) → write-app-lts.Need-put-requires (
   shape-at-reads.Asked,
   shape-at-reads.Learnt,
@@ -270,7 +265,6 @@ write-app-put-requires : (t : ℕ) → write-app-lts.Need-put-requires (
 ) (write-app-at t) write-app.Post
 write-app-put-requires t c κs = search needs
 
--- src/value.rt:349:34
 write-app-enum-known-shape : (t : ℕ) → write-app-lts.Need-enum-known-shape (
   shape-at-reads.Asked,
   shape-at-reads.Learnt,
@@ -289,7 +283,6 @@ write-app-enum-known-shape : (t : ℕ) → write-app-lts.Need-enum-known-shape (
 ) (write-app-at t) write-app.Post
 write-app-enum-known-shape t c = search needs
 
--- src/value.rt:349:45
 write-app-write-some-requires : (t : ℕ) → write-app-lts.Need-write-some-requires (
   shape-at-reads.Asked,
   shape-at-reads.Learnt,
@@ -308,7 +301,6 @@ write-app-write-some-requires : (t : ℕ) → write-app-lts.Need-write-some-requ
 ) (write-app-at t) write-app.Post
 write-app-write-some-requires t c κs = search needs
 
--- src/value.rt:360:25
 write-app-enum-known-shape-2 : (t : ℕ) → write-app-lts.Need-enum-known-shape-2 (
   shape-at-reads.Asked,
   shape-at-reads.Learnt,
@@ -327,7 +319,6 @@ write-app-enum-known-shape-2 : (t : ℕ) → write-app-lts.Need-enum-known-shape
 ) (write-app-at t) write-app.Post
 write-app-enum-known-shape-2 t c = search needs
 
--- src/value.rt:360:36
 write-app-write-some-requires-2 : (t : ℕ) → write-app-lts.Need-write-some-requires-2 (
   shape-at-reads.Asked,
   shape-at-reads.Learnt,
@@ -346,7 +337,6 @@ write-app-write-some-requires-2 : (t : ℕ) → write-app-lts.Need-write-some-re
 ) (write-app-at t) write-app.Post
 write-app-write-some-requires-2 t c κs = search needs
 
--- src/value.rt:379:13
 write-app-enum-told-3 : (t : ℕ) → write-app-lts.Need-enum-told-3 (
   shape-at-reads.Asked,
   shape-at-reads.Learnt,
@@ -365,7 +355,6 @@ write-app-enum-told-3 : (t : ℕ) → write-app-lts.Need-enum-told-3 (
 ) (write-app-at t) write-app.Post
 write-app-enum-told-3 t c = search needs
 
--- src/value.rt:371:39
 write-app-write-set-requires : (t : ℕ) → write-app-lts.Need-write-set-requires (
   shape-at-reads.Asked,
   shape-at-reads.Learnt,
@@ -384,7 +373,6 @@ write-app-write-set-requires : (t : ℕ) → write-app-lts.Need-write-set-requir
 ) (write-app-at t) write-app.Post
 write-app-write-set-requires t c κs = search needs
 
--- src/value.rt:390:13
 write-app-enum-told-4 : (t : ℕ) → write-app-lts.Need-enum-told-4 (
   shape-at-reads.Asked,
   shape-at-reads.Learnt,
@@ -403,7 +391,6 @@ write-app-enum-told-4 : (t : ℕ) → write-app-lts.Need-enum-told-4 (
 ) (write-app-at t) write-app.Post
 write-app-enum-told-4 t c = search needs
 
--- src/value.rt:382:42
 write-app-write-set-requires-2 : (t : ℕ) → write-app-lts.Need-write-set-requires-2 (
   shape-at-reads.Asked,
   shape-at-reads.Learnt,
@@ -422,7 +409,6 @@ write-app-write-set-requires-2 : (t : ℕ) → write-app-lts.Need-write-set-requ
 ) (write-app-at t) write-app.Post
 write-app-write-set-requires-2 t c κs = search needs
 
--- src/value.rt:401:13
 write-app-enum-told-5 : (t : ℕ) → write-app-lts.Need-enum-told-5 (
   shape-at-reads.Asked,
   shape-at-reads.Learnt,
@@ -441,7 +427,6 @@ write-app-enum-told-5 : (t : ℕ) → write-app-lts.Need-enum-told-5 (
 ) (write-app-at t) write-app.Post
 write-app-enum-told-5 t c = search needs
 
--- src/value.rt:393:47
 write-app-write-set-requires-3 : (t : ℕ) → write-app-lts.Need-write-set-requires-3 (
   shape-at-reads.Asked,
   shape-at-reads.Learnt,
@@ -460,7 +445,6 @@ write-app-write-set-requires-3 : (t : ℕ) → write-app-lts.Need-write-set-requ
 ) (write-app-at t) write-app.Post
 write-app-write-set-requires-3 t c κs = search needs
 
--- src/value.rt:404:28
 write-app-enum-known-shape-3 : (t : ℕ) → write-app-lts.Need-enum-known-shape-3 (
   shape-at-reads.Asked,
   shape-at-reads.Learnt,
@@ -479,7 +463,6 @@ write-app-enum-known-shape-3 : (t : ℕ) → write-app-lts.Need-enum-known-shape
 ) (write-app-at t) write-app.Post
 write-app-enum-known-shape-3 t c = search needs
 
--- src/value.rt:404:43
 write-app-write-extension-requires : (t : ℕ) → write-app-lts.Need-write-extension-requires (
   shape-at-reads.Asked,
   shape-at-reads.Learnt,
@@ -498,7 +481,6 @@ write-app-write-extension-requires : (t : ℕ) → write-app-lts.Need-write-exte
 ) (write-app-at t) write-app.Post
 write-app-write-extension-requires t c κs = search needs
 
--- src/value.rt:406:13
 write-app-enum-known-shape-4 : (t : ℕ) → write-app-lts.Need-enum-known-shape-4 (
   shape-at-reads.Asked,
   shape-at-reads.Learnt,
@@ -517,7 +499,6 @@ write-app-enum-known-shape-4 : (t : ℕ) → write-app-lts.Need-enum-known-shape
 ) (write-app-at t) write-app.Post
 write-app-enum-known-shape-4 t c = search needs
 
--- src/value.rt:410:14
 write-app-write-indexed-requires : (t : ℕ) → write-app-lts.Need-write-indexed-requires (
   shape-at-reads.Asked,
   shape-at-reads.Learnt,
@@ -536,7 +517,6 @@ write-app-write-indexed-requires : (t : ℕ) → write-app-lts.Need-write-indexe
 ) (write-app-at t) write-app.Post
 write-app-write-indexed-requires t c κs = search needs
 
--- src/value.rt:412:13
 write-app-enum-known-shape-5 : (t : ℕ) → write-app-lts.Need-enum-known-shape-5 (
   shape-at-reads.Asked,
   shape-at-reads.Learnt,
@@ -555,7 +535,6 @@ write-app-enum-known-shape-5 : (t : ℕ) → write-app-lts.Need-enum-known-shape
 ) (write-app-at t) write-app.Post
 write-app-enum-known-shape-5 t c = search needs
 
--- src/value.rt:416:14
 write-app-write-made-requires : (t : ℕ) → write-app-lts.Need-write-made-requires (
   shape-at-reads.Asked,
   shape-at-reads.Learnt,
@@ -574,7 +553,6 @@ write-app-write-made-requires : (t : ℕ) → write-app-lts.Need-write-made-requ
 ) (write-app-at t) write-app.Post
 write-app-write-made-requires t c κs = search needs
 
--- src/value.rt:430:25
 write-app-enum-told-6 : (t : ℕ) → write-app-lts.Need-enum-told-6 (
   shape-at-reads.Asked,
   shape-at-reads.Learnt,
@@ -593,7 +571,6 @@ write-app-enum-told-6 : (t : ℕ) → write-app-lts.Need-enum-told-6 (
 ) (write-app-at t) write-app.Post
 write-app-enum-told-6 t c = search needs
 
--- src/value.rt:332:1
 write-app-returns : (t : ℕ) → write-app-lts.Need-returns (
   shape-at-reads.Asked,
   shape-at-reads.Learnt,
@@ -610,9 +587,8 @@ write-app-returns : (t : ℕ) → write-app-lts.Need-returns (
   write-made-below t,
   write-made.Post,
 ) (write-app-at t) write-app.Post
-write-app-returns t c = app-operator (c .before .before .before .before .before .before .before .before .before .before .args .sorts .now) (c .before .before .before .before .before .before .before .before .before .before .args .members .now) (c .before .before .before .before .before .before .before .before .before .before .args .names .now) (c .before .before .before .before .before .before .before .before .before .before .args .nodes .now) (c .before .before .before .before .before .before .before .before .before .before .args .text .now) (c .before .before .before .before .before .before .before .before .before .before .args .at) (c .before .before .before .before .before .before .before .before .before .before .args .below) (c .before .before .shape-at .result) (c .before .before .shape-at .ensures) _ _ _ (c .enum-told .given .1)
+write-app-returns t c = let a = c .before .before .before .before .before .before .before .before .before .before .args in app-operator (a .sorts .now) (a .members .now) (a .names .now) (a .nodes .now) (a .text .now) (a .at) (a .below) (c .before .before .shape-at .result) (c .before .before .shape-at .ensures) _ _ _ (c .enum-told .given .1)
 
--- src/value.rt:332:1
 write-app-same-length : (t : ℕ) → write-app-lts.Need-same-length (
   shape-at-reads.Asked,
   shape-at-reads.Learnt,
@@ -631,7 +607,6 @@ write-app-same-length : (t : ℕ) → write-app-lts.Need-same-length (
 ) (write-app-at t) write-app.Post
 write-app-same-length t c = search needs
 
--- src/value.rt:332:1
 write-app-returns-2 : (t : ℕ) → write-app-lts.Need-returns-2 (
   shape-at-reads.Asked,
   shape-at-reads.Learnt,
@@ -648,9 +623,8 @@ write-app-returns-2 : (t : ℕ) → write-app-lts.Need-returns-2 (
   write-made-below t,
   write-made.Post,
 ) (write-app-at t) write-app.Post
-write-app-returns-2 t c = app-none (c .before .before .before .before .before .before .before .before .before .before .before .before .before .before .before .args .sorts .now) (c .before .before .before .before .before .before .before .before .before .before .before .before .before .before .before .args .members .now) (c .before .before .before .before .before .before .before .before .before .before .before .before .before .before .before .args .names .now) (c .before .before .before .before .before .before .before .before .before .before .before .before .before .before .before .args .nodes .now) (c .before .before .before .before .before .before .before .before .before .before .before .before .before .before .before .args .text .now) (c .before .before .before .before .before .before .before .before .before .before .before .before .before .before .before .args .at) (c .before .before .before .before .before .before .before .before .before .before .before .before .before .before .before .args .below) (c .before .before .before .before .before .before .before .shape-at .result) (c .before .before .before .before .before .before .before .shape-at .ensures) _ _ _ _ (c .before .before .before .before .before .enum-told2 .given .1) (c .before .before .put .ensures)
+write-app-returns-2 t c = let a = c .before .before .before .before .before .before .before .before .before .before .before .before .before .before .before .args in app-none (a .sorts .now) (a .members .now) (a .names .now) (a .nodes .now) (a .text .now) (a .at) (a .below) (c .before .before .before .before .before .before .before .shape-at .result) (c .before .before .before .before .before .before .before .shape-at .ensures) _ _ _ _ (c .before .before .before .before .before .enum-told2 .given .1) (c .before .before .put .ensures)
 
--- src/value.rt:332:1
 write-app-same-length-2 : (t : ℕ) → write-app-lts.Need-same-length-2 (
   shape-at-reads.Asked,
   shape-at-reads.Learnt,
@@ -669,7 +643,6 @@ write-app-same-length-2 : (t : ℕ) → write-app-lts.Need-same-length-2 (
 ) (write-app-at t) write-app.Post
 write-app-same-length-2 t c = search needs
 
--- src/value.rt:332:1
 write-app-same-length-3 : (t : ℕ) → write-app-lts.Need-same-length-3 (
   shape-at-reads.Asked,
   shape-at-reads.Learnt,
@@ -688,7 +661,6 @@ write-app-same-length-3 : (t : ℕ) → write-app-lts.Need-same-length-3 (
 ) (write-app-at t) write-app.Post
 write-app-same-length-3 t c = search needs
 
--- src/value.rt:332:1
 write-app-returns-3 : (t : ℕ) → write-app-lts.Need-returns-3 (
   shape-at-reads.Asked,
   shape-at-reads.Learnt,
@@ -705,9 +677,8 @@ write-app-returns-3 : (t : ℕ) → write-app-lts.Need-returns-3 (
   write-made-below t,
   write-made.Post,
 ) (write-app-at t) write-app.Post
-write-app-returns-3 t c = app-as-some (c .before .before .before .before .before .before .before .before .before .before .before .before .before .before .before .before .before .before .args .sorts .now) (c .before .before .before .before .before .before .before .before .before .before .before .before .before .before .before .before .before .before .args .members .now) (c .before .before .before .before .before .before .before .before .before .before .before .before .before .before .before .before .before .before .args .names .now) (c .before .before .before .before .before .before .before .before .before .before .before .before .before .before .before .before .before .before .args .nodes .now) (c .before .before .before .before .before .before .before .before .before .before .before .before .before .before .before .before .before .before .args .text .now) (c .before .before .before .before .before .before .before .before .before .before .before .before .before .before .before .before .before .before .args .at) (c .before .before .before .before .before .before .before .before .before .before .before .before .before .before .before .before .before .before .args .below) (c .before .before .before .before .before .before .before .before .before .before .shape-at .result) (c .before .before .before .before .before .before .before .before .before .before .shape-at .ensures) _ _ _ _ _ (c .before .before .before .before .before .before .before .before .shape .given .1) (c .before .before .before .before .write-some .ensures)
+write-app-returns-3 t c = let a = c .before .before .before .before .before .before .before .before .before .before .before .before .before .before .before .before .before .before .args in app-as-some (a .sorts .now) (a .members .now) (a .names .now) (a .nodes .now) (a .text .now) (a .at) (a .below) (c .before .before .before .before .before .before .before .before .before .before .shape-at .result) (c .before .before .before .before .before .before .before .before .before .before .shape-at .ensures) _ _ _ _ _ (c .before .before .before .before .before .before .before .before .shape .given .1) (c .before .before .before .before .write-some .ensures)
 
--- src/value.rt:332:1
 write-app-same-length-4 : (t : ℕ) → write-app-lts.Need-same-length-4 (
   shape-at-reads.Asked,
   shape-at-reads.Learnt,
@@ -726,7 +697,6 @@ write-app-same-length-4 : (t : ℕ) → write-app-lts.Need-same-length-4 (
 ) (write-app-at t) write-app.Post
 write-app-same-length-4 t c = search needs
 
--- src/value.rt:332:1
 write-app-same-length-5 : (t : ℕ) → write-app-lts.Need-same-length-5 (
   shape-at-reads.Asked,
   shape-at-reads.Learnt,
@@ -745,7 +715,6 @@ write-app-same-length-5 : (t : ℕ) → write-app-lts.Need-same-length-5 (
 ) (write-app-at t) write-app.Post
 write-app-same-length-5 t c = search needs
 
--- src/value.rt:332:1
 write-app-returns-4 : (t : ℕ) → write-app-lts.Need-returns-4 (
   shape-at-reads.Asked,
   shape-at-reads.Learnt,
@@ -762,9 +731,8 @@ write-app-returns-4 : (t : ℕ) → write-app-lts.Need-returns-4 (
   write-made-below t,
   write-made.Post,
 ) (write-app-at t) write-app.Post
-write-app-returns-4 t c = app-some (c .before .before .before .before .before .before .before .before .before .before .before .before .before .before .before .before .before .before .args .sorts .now) (c .before .before .before .before .before .before .before .before .before .before .before .before .before .before .before .before .before .before .args .members .now) (c .before .before .before .before .before .before .before .before .before .before .before .before .before .before .before .before .before .before .args .names .now) (c .before .before .before .before .before .before .before .before .before .before .before .before .before .before .before .before .before .before .args .nodes .now) (c .before .before .before .before .before .before .before .before .before .before .before .before .before .before .before .before .before .before .args .text .now) (c .before .before .before .before .before .before .before .before .before .before .before .before .before .before .before .before .before .before .args .at) (c .before .before .before .before .before .before .before .before .before .before .before .before .before .before .before .before .before .before .args .below) (c .before .before .before .before .before .before .before .before .before .before .shape-at .result) (c .before .before .before .before .before .before .before .before .before .before .shape-at .ensures) _ _ _ _ (c .before .before .before .before .before .before .before .before .shape2 .given .1) (c .before .before .before .before .write-some2 .ensures)
+write-app-returns-4 t c = let a = c .before .before .before .before .before .before .before .before .before .before .before .before .before .before .before .before .before .before .args in app-some (a .sorts .now) (a .members .now) (a .names .now) (a .nodes .now) (a .text .now) (a .at) (a .below) (c .before .before .before .before .before .before .before .before .before .before .shape-at .result) (c .before .before .before .before .before .before .before .before .before .before .shape-at .ensures) _ _ _ _ (c .before .before .before .before .before .before .before .before .shape2 .given .1) (c .before .before .before .before .write-some2 .ensures)
 
--- src/value.rt:332:1
 write-app-same-length-6 : (t : ℕ) → write-app-lts.Need-same-length-6 (
   shape-at-reads.Asked,
   shape-at-reads.Learnt,
@@ -783,7 +751,6 @@ write-app-same-length-6 : (t : ℕ) → write-app-lts.Need-same-length-6 (
 ) (write-app-at t) write-app.Post
 write-app-same-length-6 t c = search needs
 
--- src/value.rt:332:1
 write-app-same-length-7 : (t : ℕ) → write-app-lts.Need-same-length-7 (
   shape-at-reads.Asked,
   shape-at-reads.Learnt,
@@ -802,7 +769,6 @@ write-app-same-length-7 : (t : ℕ) → write-app-lts.Need-same-length-7 (
 ) (write-app-at t) write-app.Post
 write-app-same-length-7 t c = search needs
 
--- src/value.rt:332:1
 write-app-returns-5 : (t : ℕ) → write-app-lts.Need-returns-5 (
   shape-at-reads.Asked,
   shape-at-reads.Learnt,
@@ -819,9 +785,8 @@ write-app-returns-5 : (t : ℕ) → write-app-lts.Need-returns-5 (
   write-made-below t,
   write-made.Post,
 ) (write-app-at t) write-app.Post
-write-app-returns-5 t c = app-set (c .before .before .before .before .before .before .before .before .before .before .before .before .before .before .before .before .before .args .sorts .now) (c .before .before .before .before .before .before .before .before .before .before .before .before .before .before .before .before .before .args .members .now) (c .before .before .before .before .before .before .before .before .before .before .before .before .before .before .before .before .before .args .names .now) (c .before .before .before .before .before .before .before .before .before .before .before .before .before .before .before .before .before .args .nodes .now) (c .before .before .before .before .before .before .before .before .before .before .before .before .before .before .before .before .before .args .text .now) (c .before .before .before .before .before .before .before .before .before .before .before .before .before .before .before .before .before .args .at) (c .before .before .before .before .before .before .before .before .before .before .before .before .before .before .before .before .before .args .below) (c .before .before .before .before .before .before .before .before .before .shape-at .result) (c .before .before .before .before .before .before .before .before .before .shape-at .ensures) _ _ _ (ap setFound (c .before .before .before .before .before .before .before .enum-told3 .given .1)) (c .before .before .before .before .write-set .ensures)
+write-app-returns-5 t c = let a = c .before .before .before .before .before .before .before .before .before .before .before .before .before .before .before .before .before .args in app-set (a .sorts .now) (a .members .now) (a .names .now) (a .nodes .now) (a .text .now) (a .at) (a .below) (c .before .before .before .before .before .before .before .before .before .shape-at .result) (c .before .before .before .before .before .before .before .before .before .shape-at .ensures) _ _ _ (ap setFound (c .before .before .before .before .before .before .before .enum-told3 .given .1)) (c .before .before .before .before .write-set .ensures)
 
--- src/value.rt:332:1
 write-app-same-length-8 : (t : ℕ) → write-app-lts.Need-same-length-8 (
   shape-at-reads.Asked,
   shape-at-reads.Learnt,
@@ -840,7 +805,6 @@ write-app-same-length-8 : (t : ℕ) → write-app-lts.Need-same-length-8 (
 ) (write-app-at t) write-app.Post
 write-app-same-length-8 t c = search needs
 
--- src/value.rt:332:1
 write-app-same-length-9 : (t : ℕ) → write-app-lts.Need-same-length-9 (
   shape-at-reads.Asked,
   shape-at-reads.Learnt,
@@ -859,7 +823,6 @@ write-app-same-length-9 : (t : ℕ) → write-app-lts.Need-same-length-9 (
 ) (write-app-at t) write-app.Post
 write-app-same-length-9 t c = search needs
 
--- src/value.rt:332:1
 write-app-returns-6 : (t : ℕ) → write-app-lts.Need-returns-6 (
   shape-at-reads.Asked,
   shape-at-reads.Learnt,
@@ -876,9 +839,8 @@ write-app-returns-6 : (t : ℕ) → write-app-lts.Need-returns-6 (
   write-made-below t,
   write-made.Post,
 ) (write-app-at t) write-app.Post
-write-app-returns-6 t c = app-set (c .before .before .before .before .before .before .before .before .before .before .before .before .before .before .before .before .before .args .sorts .now) (c .before .before .before .before .before .before .before .before .before .before .before .before .before .before .before .before .before .args .members .now) (c .before .before .before .before .before .before .before .before .before .before .before .before .before .before .before .before .before .args .names .now) (c .before .before .before .before .before .before .before .before .before .before .before .before .before .before .before .before .before .args .nodes .now) (c .before .before .before .before .before .before .before .before .before .before .before .before .before .before .before .before .before .args .text .now) (c .before .before .before .before .before .before .before .before .before .before .before .before .before .before .before .before .before .args .at) (c .before .before .before .before .before .before .before .before .before .before .before .before .before .before .before .before .before .args .below) (c .before .before .before .before .before .before .before .before .before .shape-at .result) (c .before .before .before .before .before .before .before .before .before .shape-at .ensures) _ _ _ (ap setFound (c .before .before .before .before .before .before .before .enum-told4 .given .1)) (c .before .before .before .before .write-set2 .ensures)
+write-app-returns-6 t c = let a = c .before .before .before .before .before .before .before .before .before .before .before .before .before .before .before .before .before .args in app-set (a .sorts .now) (a .members .now) (a .names .now) (a .nodes .now) (a .text .now) (a .at) (a .below) (c .before .before .before .before .before .before .before .before .before .shape-at .result) (c .before .before .before .before .before .before .before .before .before .shape-at .ensures) _ _ _ (ap setFound (c .before .before .before .before .before .before .before .enum-told4 .given .1)) (c .before .before .before .before .write-set2 .ensures)
 
--- src/value.rt:332:1
 write-app-same-length-10 : (t : ℕ) → write-app-lts.Need-same-length-10 (
   shape-at-reads.Asked,
   shape-at-reads.Learnt,
@@ -897,7 +859,6 @@ write-app-same-length-10 : (t : ℕ) → write-app-lts.Need-same-length-10 (
 ) (write-app-at t) write-app.Post
 write-app-same-length-10 t c = search needs
 
--- src/value.rt:332:1
 write-app-same-length-11 : (t : ℕ) → write-app-lts.Need-same-length-11 (
   shape-at-reads.Asked,
   shape-at-reads.Learnt,
@@ -916,7 +877,6 @@ write-app-same-length-11 : (t : ℕ) → write-app-lts.Need-same-length-11 (
 ) (write-app-at t) write-app.Post
 write-app-same-length-11 t c = search needs
 
--- src/value.rt:332:1
 write-app-returns-7 : (t : ℕ) → write-app-lts.Need-returns-7 (
   shape-at-reads.Asked,
   shape-at-reads.Learnt,
@@ -933,9 +893,8 @@ write-app-returns-7 : (t : ℕ) → write-app-lts.Need-returns-7 (
   write-made-below t,
   write-made.Post,
 ) (write-app-at t) write-app.Post
-write-app-returns-7 t c = app-set (c .before .before .before .before .before .before .before .before .before .before .before .before .before .before .before .before .before .args .sorts .now) (c .before .before .before .before .before .before .before .before .before .before .before .before .before .before .before .before .before .args .members .now) (c .before .before .before .before .before .before .before .before .before .before .before .before .before .before .before .before .before .args .names .now) (c .before .before .before .before .before .before .before .before .before .before .before .before .before .before .before .before .before .args .nodes .now) (c .before .before .before .before .before .before .before .before .before .before .before .before .before .before .before .before .before .args .text .now) (c .before .before .before .before .before .before .before .before .before .before .before .before .before .before .before .before .before .args .at) (c .before .before .before .before .before .before .before .before .before .before .before .before .before .before .before .before .before .args .below) (c .before .before .before .before .before .before .before .before .before .shape-at .result) (c .before .before .before .before .before .before .before .before .before .shape-at .ensures) _ _ _ (ap setFound (c .before .before .before .before .before .before .before .enum-told5 .given .1)) (c .before .before .before .before .write-set3 .ensures)
+write-app-returns-7 t c = let a = c .before .before .before .before .before .before .before .before .before .before .before .before .before .before .before .before .before .args in app-set (a .sorts .now) (a .members .now) (a .names .now) (a .nodes .now) (a .text .now) (a .at) (a .below) (c .before .before .before .before .before .before .before .before .before .shape-at .result) (c .before .before .before .before .before .before .before .before .before .shape-at .ensures) _ _ _ (ap setFound (c .before .before .before .before .before .before .before .enum-told5 .given .1)) (c .before .before .before .before .write-set3 .ensures)
 
--- src/value.rt:332:1
 write-app-same-length-12 : (t : ℕ) → write-app-lts.Need-same-length-12 (
   shape-at-reads.Asked,
   shape-at-reads.Learnt,
@@ -954,7 +913,6 @@ write-app-same-length-12 : (t : ℕ) → write-app-lts.Need-same-length-12 (
 ) (write-app-at t) write-app.Post
 write-app-same-length-12 t c = search needs
 
--- src/value.rt:332:1
 write-app-returns-8 : (t : ℕ) → write-app-lts.Need-returns-8 (
   shape-at-reads.Asked,
   shape-at-reads.Learnt,
@@ -971,9 +929,8 @@ write-app-returns-8 : (t : ℕ) → write-app-lts.Need-returns-8 (
   write-made-below t,
   write-made.Post,
 ) (write-app-at t) write-app.Post
-write-app-returns-8 t c = app-extension (c .before .before .before .before .before .before .before .before .before .before .before .before .before .before .before .args .sorts .now) (c .before .before .before .before .before .before .before .before .before .before .before .before .before .before .before .args .members .now) (c .before .before .before .before .before .before .before .before .before .before .before .before .before .before .before .args .names .now) (c .before .before .before .before .before .before .before .before .before .before .before .before .before .before .before .args .nodes .now) (c .before .before .before .before .before .before .before .before .before .before .before .before .before .before .before .args .text .now) (c .before .before .before .before .before .before .before .before .before .before .before .before .before .before .before .args .at) (c .before .before .before .before .before .before .before .before .before .before .before .before .before .before .before .args .below) (c .before .before .before .before .before .before .before .shape-at .result) (c .before .before .before .before .before .before .before .shape-at .ensures) _ _ _ _ _ (c .before .before .before .before .before .shape3 .given .1) (c .before .before .write-extension .ensures)
+write-app-returns-8 t c = let a = c .before .before .before .before .before .before .before .before .before .before .before .before .before .before .before .args in app-extension (a .sorts .now) (a .members .now) (a .names .now) (a .nodes .now) (a .text .now) (a .at) (a .below) (c .before .before .before .before .before .before .before .shape-at .result) (c .before .before .before .before .before .before .before .shape-at .ensures) _ _ _ _ _ (c .before .before .before .before .before .shape3 .given .1) (c .before .before .write-extension .ensures)
 
--- src/value.rt:332:1
 write-app-same-length-13 : (t : ℕ) → write-app-lts.Need-same-length-13 (
   shape-at-reads.Asked,
   shape-at-reads.Learnt,
@@ -992,7 +949,6 @@ write-app-same-length-13 : (t : ℕ) → write-app-lts.Need-same-length-13 (
 ) (write-app-at t) write-app.Post
 write-app-same-length-13 t c = search needs
 
--- src/value.rt:332:1
 write-app-returns-9 : (t : ℕ) → write-app-lts.Need-returns-9 (
   shape-at-reads.Asked,
   shape-at-reads.Learnt,
@@ -1009,9 +965,8 @@ write-app-returns-9 : (t : ℕ) → write-app-lts.Need-returns-9 (
   write-made-below t,
   write-made.Post,
 ) (write-app-at t) write-app.Post
-write-app-returns-9 t c = app-indexed (c .before .before .before .before .before .before .before .before .before .before .before .before .before .before .before .args .sorts .now) (c .before .before .before .before .before .before .before .before .before .before .before .before .before .before .before .args .members .now) (c .before .before .before .before .before .before .before .before .before .before .before .before .before .before .before .args .names .now) (c .before .before .before .before .before .before .before .before .before .before .before .before .before .before .before .args .nodes .now) (c .before .before .before .before .before .before .before .before .before .before .before .before .before .before .before .args .text .now) (c .before .before .before .before .before .before .before .before .before .before .before .before .before .before .before .args .at) (c .before .before .before .before .before .before .before .before .before .before .before .before .before .before .before .args .below) (c .before .before .before .before .before .before .before .shape-at .result) (c .before .before .before .before .before .before .before .shape-at .ensures) _ _ _ _ _ _ _ (c .before .before .before .before .before .shape4 .given .1) (c .before .before .write-indexed .ensures)
+write-app-returns-9 t c = let a = c .before .before .before .before .before .before .before .before .before .before .before .before .before .before .before .args in app-indexed (a .sorts .now) (a .members .now) (a .names .now) (a .nodes .now) (a .text .now) (a .at) (a .below) (c .before .before .before .before .before .before .before .shape-at .result) (c .before .before .before .before .before .before .before .shape-at .ensures) _ _ _ _ _ _ _ (c .before .before .before .before .before .shape4 .given .1) (c .before .before .write-indexed .ensures)
 
--- src/value.rt:332:1
 write-app-same-length-14 : (t : ℕ) → write-app-lts.Need-same-length-14 (
   shape-at-reads.Asked,
   shape-at-reads.Learnt,
@@ -1030,7 +985,6 @@ write-app-same-length-14 : (t : ℕ) → write-app-lts.Need-same-length-14 (
 ) (write-app-at t) write-app.Post
 write-app-same-length-14 t c = search needs
 
--- src/value.rt:332:1
 write-app-same-length-15 : (t : ℕ) → write-app-lts.Need-same-length-15 (
   shape-at-reads.Asked,
   shape-at-reads.Learnt,
@@ -1049,7 +1003,6 @@ write-app-same-length-15 : (t : ℕ) → write-app-lts.Need-same-length-15 (
 ) (write-app-at t) write-app.Post
 write-app-same-length-15 t c = search needs
 
--- src/value.rt:332:1
 write-app-returns-10 : (t : ℕ) → write-app-lts.Need-returns-10 (
   shape-at-reads.Asked,
   shape-at-reads.Learnt,
@@ -1066,9 +1019,8 @@ write-app-returns-10 : (t : ℕ) → write-app-lts.Need-returns-10 (
   write-made-below t,
   write-made.Post,
 ) (write-app-at t) write-app.Post
-write-app-returns-10 t c = app-made (c .before .before .before .before .before .before .before .before .before .before .before .before .before .before .before .before .before .before .args .sorts .now) (c .before .before .before .before .before .before .before .before .before .before .before .before .before .before .before .before .before .before .args .members .now) (c .before .before .before .before .before .before .before .before .before .before .before .before .before .before .before .before .before .before .args .names .now) (c .before .before .before .before .before .before .before .before .before .before .before .before .before .before .before .before .before .before .args .nodes .now) (c .before .before .before .before .before .before .before .before .before .before .before .before .before .before .before .before .before .before .args .text .now) (c .before .before .before .before .before .before .before .before .before .before .before .before .before .before .before .before .before .before .args .at) (c .before .before .before .before .before .before .before .before .before .before .before .before .before .before .before .before .before .before .args .below) (c .before .before .before .before .before .before .before .before .before .before .shape-at .result) (c .before .before .before .before .before .before .before .before .before .before .shape-at .ensures) _ _ _ _ _ _ _ (c .before .before .before .before .before .before .before .before .shape5 .given .1) (c .before .before .before .before .write-made .ensures)
+write-app-returns-10 t c = let a = c .before .before .before .before .before .before .before .before .before .before .before .before .before .before .before .before .before .before .args in app-made (a .sorts .now) (a .members .now) (a .names .now) (a .nodes .now) (a .text .now) (a .at) (a .below) (c .before .before .before .before .before .before .before .before .before .before .shape-at .result) (c .before .before .before .before .before .before .before .before .before .before .shape-at .ensures) _ _ _ _ _ _ _ (c .before .before .before .before .before .before .before .before .shape5 .given .1) (c .before .before .before .before .write-made .ensures)
 
--- src/value.rt:332:1
 write-app-returns-11 : (t : ℕ) → write-app-lts.Need-returns-11 (
   shape-at-reads.Asked,
   shape-at-reads.Learnt,
@@ -1085,7 +1037,7 @@ write-app-returns-11 : (t : ℕ) → write-app-lts.Need-returns-11 (
   write-made-below t,
   write-made.Post,
 ) (write-app-at t) write-app.Post
-write-app-returns-11 t c = app-other (c .before .before .before .before .before .before .before .before .before .before .args .sorts .now) (c .before .before .before .before .before .before .before .before .before .before .args .members .now) (c .before .before .before .before .before .before .before .before .before .before .args .names .now) (c .before .before .before .before .before .before .before .before .before .before .args .nodes .now) (c .before .before .before .before .before .before .before .before .before .before .args .text .now) (c .before .before .before .before .before .before .before .before .before .before .args .at) (c .before .before .before .before .before .before .before .before .before .before .args .below) (c .before .before .shape-at .result) (c .before .before .shape-at .ensures) _ _ _ (c .enum-told6 .given .1)
+write-app-returns-11 t c = let a = c .before .before .before .before .before .before .before .before .before .before .args in app-other (a .sorts .now) (a .members .now) (a .names .now) (a .nodes .now) (a .text .now) (a .at) (a .below) (c .before .before .shape-at .result) (c .before .before .shape-at .ensures) _ _ _ (c .enum-told6 .given .1)
 
 abbrev write-fields-Inv-loop : write-fields-lts.InvT-loop
 write-fields-Inv-loop sorts members names nodes text first count allow scratch₀ out₀ place at₀ to₀ i₀ scratch out at to i =
@@ -1095,7 +1047,6 @@ abbrev write-fields-μ-loop : write-fields-lts.MeasureT-loop
 write-fields-μ-loop sorts members names nodes text first count allow scratch₀ out₀ place at₀ to₀ i₀ scratch out at to i =
     count - i
 
--- src/value.rt:236:5
 write-fields-loop-holds : (t : ℕ) → write-fields-lts.Need-loop-holds (
   write-comma-reads.Asked,
   write-comma-reads.Learnt,
@@ -1104,9 +1055,8 @@ write-fields-loop-holds : (t : ℕ) → write-fields-lts.Need-loop-holds (
   after-reads.Asked,
   after-reads.Learnt,
 ) (write-fields-at t) write-fields.Post write-fields-Inv-loop write-fields-μ-loop
-write-fields-loop-holds t c = (omega arith, refl, refl, left-start (c .before .before .before .before .before .before .before .args .sorts .now) (c .before .before .before .before .before .before .before .args .members .now) (c .before .before .before .before .before .before .before .args .names .now) (c .before .before .before .before .before .before .before .args .nodes .now) (c .before .before .before .before .before .before .before .args .text .now) (c .before .before .before .before .before .before .before .args .first) (c .before .before .before .before .before .before .before .args .count) (c .before .before .before .before .before .before .before .args .allow) (c .before .before .before .before .before .before .before .args .out .now) (c .before .before .before .before .before .before .before .args .place))
+write-fields-loop-holds t c = let a = c .before .before .before .before .before .before .before .args in (omega arith, refl, refl, left-start (a .sorts .now) (a .members .now) (a .names .now) (a .nodes .now) (a .text .now) (a .first) (a .count) (a .allow) (a .out .now) (a .place))
 
--- src/value.rt:237:13
 write-fields-write-comma-requires : (t : ℕ) → write-fields-lts.Need-write-comma-requires (
   write-comma-reads.Asked,
   write-comma-reads.Learnt,
@@ -1117,7 +1067,6 @@ write-fields-write-comma-requires : (t : ℕ) → write-fields-lts.Need-write-co
 ) (write-fields-at t) write-fields.Post write-fields-Inv-loop write-fields-μ-loop
 write-fields-write-comma-requires t c κs = search needs
 
--- src/value.rt:238:9
 write-fields-write-inside-requires : (t : ℕ) → write-fields-lts.Need-write-inside-requires (
   write-comma-reads.Asked,
   write-comma-reads.Learnt,
@@ -1128,7 +1077,6 @@ write-fields-write-inside-requires : (t : ℕ) → write-fields-lts.Need-write-i
 ) (write-fields-at t) write-fields.Post write-fields-Inv-loop write-fields-μ-loop
 write-fields-write-inside-requires t c κs = search needs
 
--- src/value.rt:250:9
 write-fields-after-requires : (t : ℕ) → write-fields-lts.Need-after-requires (
   write-comma-reads.Asked,
   write-comma-reads.Learnt,
@@ -1139,7 +1087,6 @@ write-fields-after-requires : (t : ℕ) → write-fields-lts.Need-after-requires
 ) (write-fields-at t) write-fields.Post write-fields-Inv-loop write-fields-μ-loop
 write-fields-after-requires t c κs = search needs
 
--- src/value.rt:251:9
 write-fields-add-i : (t : ℕ) → write-fields-lts.Need-add-i (
   write-comma-reads.Asked,
   write-comma-reads.Learnt,
@@ -1150,7 +1097,6 @@ write-fields-add-i : (t : ℕ) → write-fields-lts.Need-add-i (
 ) (write-fields-at t) write-fields.Post write-fields-Inv-loop write-fields-μ-loop
 write-fields-add-i t c = search needs
 
--- src/value.rt:236:5
 write-fields-loop-less : (t : ℕ) → write-fields-lts.Need-loop-less (
   write-comma-reads.Asked,
   write-comma-reads.Learnt,
@@ -1161,7 +1107,6 @@ write-fields-loop-less : (t : ℕ) → write-fields-lts.Need-loop-less (
 ) (write-fields-at t) write-fields.Post write-fields-Inv-loop write-fields-μ-loop
 write-fields-loop-less t c = search needs
 
--- src/value.rt:236:5
 write-fields-loop-again : (t : ℕ) → write-fields-lts.Need-loop-again (
   write-comma-reads.Asked,
   write-comma-reads.Learnt,
@@ -1170,9 +1115,8 @@ write-fields-loop-again : (t : ℕ) → write-fields-lts.Need-loop-again (
   after-reads.Asked,
   after-reads.Learnt,
 ) (write-fields-at t) write-fields.Post write-fields-Inv-loop write-fields-μ-loop
-write-fields-loop-again t c = (omega arith, c .before .before .before .before .before .write-inside .kept .1 .1 .1 .1 .1 .1 .1 .0 ∙ c .before .before .before .before .before .before .before .before .before .before .before .before .before .loop .inv .1, c .before .before .before .before .before .write-inside .kept .1 .1 .1 .1 .1 .1 .1 .1 .0 ∙ c .before .before .before .before .before .before .before .before .before .before .write-comma .kept .1 .0 ∙ c .before .before .before .before .before .before .before .before .before .before .before .before .before .loop .inv .2, left-next (c .before .before .before .before .before .before .before .before .before .before .before .before .before .before .before .before .before .before .before .before .before .args .sorts .now) (c .before .before .before .before .before .before .before .before .before .before .before .before .before .before .before .before .before .before .before .before .before .args .members .now) (c .before .before .before .before .before .before .before .before .before .before .before .before .before .before .before .before .before .before .before .before .before .args .names .now) (c .before .before .before .before .before .before .before .before .before .before .before .before .before .before .before .before .before .before .before .before .before .args .nodes .now) (c .before .before .before .before .before .before .before .before .before .before .before .before .before .before .before .before .before .before .before .before .before .args .text .now) (c .before .before .before .before .before .before .before .before .before .before .before .before .before .before .before .before .before .before .before .before .before .args .first) (c .before .before .before .before .before .before .before .before .before .before .before .before .before .before .before .before .before .before .before .before .before .args .count) (c .before .before .before .before .before .before .before .before .before .before .before .before .before .before .before .before .before .before .before .before .before .args .allow) (c .before .before .before .before .before .before .before .before .before .before .before .before .before .before .before .before .before .before .before .before .before .args .out .now) (c .before .before .before .before .before .before .before .before .before .before .before .before .before .before .before .before .before .before .before .before .before .args .place) _ _ _ _ (c .before .before .before .before .before .before .before .before .before .before .before .before .before .loop .inv .3) (c .before .before .before .before .before .before .before .before .before .before .before .before .loop-test .taken) _ _ _ _ (c .before .before .before .before .before .before .before .before .before .before .write-comma .ensures) (c .before .before .before .before .before .write-inside .ensures) _ (c .after .ensures))
+write-fields-loop-again t c = let a = c .before .before .before .before .before .before .before .before .before .before .before .before .before .before .before .before .before .before .before .before .before .args in (omega arith, c .before .before .before .before .before .write-inside .kept .1 .1 .1 .1 .1 .1 .1 .0 ∙ c .before .before .before .before .before .before .before .before .before .before .before .before .before .loop .inv .1, c .before .before .before .before .before .write-inside .kept .1 .1 .1 .1 .1 .1 .1 .1 .0 ∙ c .before .before .before .before .before .before .before .before .before .before .write-comma .kept .1 .0 ∙ c .before .before .before .before .before .before .before .before .before .before .before .before .before .loop .inv .2, left-next (a .sorts .now) (a .members .now) (a .names .now) (a .nodes .now) (a .text .now) (a .first) (a .count) (a .allow) (a .out .now) (a .place) _ _ _ _ (c .before .before .before .before .before .before .before .before .before .before .before .before .before .loop .inv .3) (c .before .before .before .before .before .before .before .before .before .before .before .before .loop-test .taken) _ _ _ _ (c .before .before .before .before .before .before .before .before .before .before .write-comma .ensures) (c .before .before .before .before .before .write-inside .ensures) _ (c .after .ensures))
 
--- src/value.rt:218:1
 write-fields-same-length : (t : ℕ) → write-fields-lts.Need-same-length (
   write-comma-reads.Asked,
   write-comma-reads.Learnt,
@@ -1183,7 +1127,6 @@ write-fields-same-length : (t : ℕ) → write-fields-lts.Need-same-length (
 ) (write-fields-at t) write-fields.Post write-fields-Inv-loop write-fields-μ-loop
 write-fields-same-length t c = c .before .loop .inv .1
 
--- src/value.rt:218:1
 write-fields-same-length-2 : (t : ℕ) → write-fields-lts.Need-same-length-2 (
   write-comma-reads.Asked,
   write-comma-reads.Learnt,
@@ -1194,7 +1137,6 @@ write-fields-same-length-2 : (t : ℕ) → write-fields-lts.Need-same-length-2 (
 ) (write-fields-at t) write-fields.Post write-fields-Inv-loop write-fields-μ-loop
 write-fields-same-length-2 t c = c .before .loop .inv .2
 
--- src/value.rt:218:1
 write-fields-returns : (t : ℕ) → write-fields-lts.Need-returns (
   write-comma-reads.Asked,
   write-comma-reads.Learnt,
@@ -1203,18 +1145,16 @@ write-fields-returns : (t : ℕ) → write-fields-lts.Need-returns (
   after-reads.Asked,
   after-reads.Learnt,
 ) (write-fields-at t) write-fields.Post write-fields-Inv-loop write-fields-μ-loop
-write-fields-returns t c = left-end (c .before .before .before .before .before .before .before .before .before .args .sorts .now) (c .before .before .before .before .before .before .before .before .before .args .members .now) (c .before .before .before .before .before .before .before .before .before .args .names .now) (c .before .before .before .before .before .before .before .before .before .args .nodes .now) (c .before .before .before .before .before .before .before .before .before .args .text .now) (c .before .before .before .before .before .before .before .before .before .args .first) (c .before .before .before .before .before .before .before .before .before .args .count) (c .before .before .before .before .before .before .before .before .before .args .allow) (c .before .before .before .before .before .before .before .before .before .args .out .now) (c .before .before .before .before .before .before .before .before .before .args .place) _ _ _ _ (c .before .loop .inv .3) (c .loop-test .left)
+write-fields-returns t c = let a = c .before .before .before .before .before .before .before .before .before .args in left-end (a .sorts .now) (a .members .now) (a .names .now) (a .nodes .now) (a .text .now) (a .first) (a .count) (a .allow) (a .out .now) (a .place) _ _ _ _ (c .before .loop .inv .3) (c .loop-test .left)
 
--- src/value.rt:41:9
 write-inside-returns : (t : ℕ) → write-inside-lts.Need-returns (
   write-value-below t,
   write-value.Post,
   plus-reads.Asked,
   plus-reads.Learnt,
 ) (write-inside-at t) write-inside.Post
-write-inside-returns t c = inside-past (c .before .before .before .before .before .before .before .before .args .sorts .now) (c .before .before .before .before .before .before .before .before .args .members .now) (c .before .before .before .before .before .before .before .before .args .names .now) (c .before .before .before .before .before .before .before .before .args .nodes .now) (c .before .before .before .before .before .before .before .before .args .text .now) (c .before .before .before .before .before .before .before .before .args .at) (c .before .before .before .before .before .before .before .before .args .allow) _ (c .before .before .before .before .before .before .before .before .args .place) _ (c .if1 .taken)
+write-inside-returns t c = let a = c .before .before .before .before .before .before .before .before .args in inside-past (a .sorts .now) (a .members .now) (a .names .now) (a .nodes .now) (a .text .now) (a .at) (a .allow) _ (a .place) _ (c .if1 .taken)
 
--- src/value.rt:52:9
 write-inside-sub-write-value : (t : ℕ) → write-inside-lts.Need-sub-write-value (
   write-value-below t,
   write-value.Post,
@@ -1223,7 +1163,6 @@ write-inside-sub-write-value : (t : ℕ) → write-inside-lts.Need-sub-write-val
 ) (write-inside-at t) write-inside.Post
 write-inside-sub-write-value t c = search needs
 
--- src/value.rt:52:9
 write-inside-part-write-value-start : (t : ℕ) → write-inside-lts.Need-part-write-value-start (
   write-value-below t,
   write-value.Post,
@@ -1232,7 +1171,6 @@ write-inside-part-write-value-start : (t : ℕ) → write-inside-lts.Need-part-w
 ) (write-inside-at t) write-inside.Post
 write-inside-part-write-value-start t c = search needs
 
--- src/value.rt:52:9
 write-inside-part-write-value-end : (t : ℕ) → write-inside-lts.Need-part-write-value-end (
   write-value-below t,
   write-value.Post,
@@ -1241,7 +1179,6 @@ write-inside-part-write-value-end : (t : ℕ) → write-inside-lts.Need-part-wri
 ) (write-inside-at t) write-inside.Post
 write-inside-part-write-value-end t c = search needs
 
--- src/value.rt:43:9
 write-inside-write-value-requires : (t : ℕ) → write-inside-lts.Need-write-value-requires (
   write-value-below t,
   write-value.Post,
@@ -1250,7 +1187,6 @@ write-inside-write-value-requires : (t : ℕ) → write-inside-lts.Need-write-va
 ) (write-inside-at t) write-inside.Post
 write-inside-write-value-requires t c κs = search needs
 
--- src/value.rt:54:5
 write-inside-plus-requires : (t : ℕ) → write-inside-lts.Need-plus-requires (
   write-value-below t,
   write-value.Post,
@@ -1259,7 +1195,6 @@ write-inside-plus-requires : (t : ℕ) → write-inside-lts.Need-plus-requires (
 ) (write-inside-at t) write-inside.Post
 write-inside-plus-requires t c κs = search needs
 
--- src/value.rt:26:1
 write-inside-same-length : (t : ℕ) → write-inside-lts.Need-same-length (
   write-value-below t,
   write-value.Post,
@@ -1268,7 +1203,6 @@ write-inside-same-length : (t : ℕ) → write-inside-lts.Need-same-length (
 ) (write-inside-at t) write-inside.Post
 write-inside-same-length t c = search needs
 
--- src/value.rt:26:1
 write-inside-same-length-2 : (t : ℕ) → write-inside-lts.Need-same-length-2 (
   write-value-below t,
   write-value.Post,
@@ -1277,16 +1211,14 @@ write-inside-same-length-2 : (t : ℕ) → write-inside-lts.Need-same-length-2 (
 ) (write-inside-at t) write-inside.Post
 write-inside-same-length-2 t c = search needs
 
--- src/value.rt:26:1
 write-inside-returns-2 : (t : ℕ) → write-inside-lts.Need-returns-2 (
   write-value-below t,
   write-value.Post,
   plus-reads.Asked,
   plus-reads.Learnt,
 ) (write-inside-at t) write-inside.Post
-write-inside-returns-2 t c = inside-tail (c .before .before .before .before .before .before .before .before .before .before .before .before .before .before .before .before .args .sorts .now) (c .before .before .before .before .before .before .before .before .before .before .before .before .before .before .before .before .args .members .now) (c .before .before .before .before .before .before .before .before .before .before .before .before .before .before .before .before .args .names .now) (c .before .before .before .before .before .before .before .before .before .before .before .before .before .before .before .before .args .nodes .now) (c .before .before .before .before .before .before .before .before .before .before .before .before .before .before .before .before .args .text .now) (c .before .before .before .before .before .before .before .before .before .before .before .before .before .before .before .before .args .at) (c .before .before .before .before .before .before .before .before .before .before .before .before .before .before .before .before .args .allow) _ _ _ _ _ (c .before .before .before .before .before .before .before .before .if1 .left) (c .before .before .before .before .before .write-value .kept .1 .1 .1 .1 .1 .1 .1 .1 .0) (c .before .before .before .before .before .before .before .before .before .before .before .before .before .before .before .before .good .1 .1 .1 .1 .1 .1 .1 .1 .0 .0) (c .before .before .before .before .before .write-value .ensures) (c .plus .ensures)
+write-inside-returns-2 t c = let a = c .before .before .before .before .before .before .before .before .before .before .before .before .before .before .before .before .args in inside-tail (a .sorts .now) (a .members .now) (a .names .now) (a .nodes .now) (a .text .now) (a .at) (a .allow) _ _ _ _ _ (c .before .before .before .before .before .before .before .before .if1 .left) (c .before .before .before .before .before .write-value .kept .1 .1 .1 .1 .1 .1 .1 .1 .0) (c .before .before .before .before .before .before .before .before .before .before .before .before .before .before .before .before .good .1 .1 .1 .1 .1 .1 .1 .1 .0 .0) (c .before .before .before .before .before .write-value .ensures) (c .plus .ensures)
 
--- src/value.rt:308:9
 write-made-clamp-requires : (t : ℕ) → write-made-lts.Need-clamp-requires (
   clamp-reads.Asked,
   clamp-reads.Learnt,
@@ -1299,7 +1231,6 @@ write-made-clamp-requires : (t : ℕ) → write-made-lts.Need-clamp-requires (
 ) (write-made-at t) write-made.Post
 write-made-clamp-requires t c κs = search needs
 
--- src/value.rt:311:38
 write-made-sub-made-of : (t : ℕ) → write-made-lts.Need-sub-made-of (
   clamp-reads.Asked,
   clamp-reads.Learnt,
@@ -1312,7 +1243,6 @@ write-made-sub-made-of : (t : ℕ) → write-made-lts.Need-sub-made-of (
 ) (write-made-at t) write-made.Post
 write-made-sub-made-of t c = search needs
 
--- src/value.rt:311:38
 write-made-part-made-of-start : (t : ℕ) → write-made-lts.Need-part-made-of-start (
   clamp-reads.Asked,
   clamp-reads.Learnt,
@@ -1325,7 +1255,6 @@ write-made-part-made-of-start : (t : ℕ) → write-made-lts.Need-part-made-of-s
 ) (write-made-at t) write-made.Post
 write-made-part-made-of-start t c = search needs
 
--- src/value.rt:311:38
 write-made-part-made-of-end : (t : ℕ) → write-made-lts.Need-part-made-of-end (
   clamp-reads.Asked,
   clamp-reads.Learnt,
@@ -1338,7 +1267,6 @@ write-made-part-made-of-end : (t : ℕ) → write-made-lts.Need-part-made-of-end
 ) (write-made-at t) write-made.Post
 write-made-part-made-of-end t c = search needs
 
--- src/value.rt:311:9
 write-made-made-of-requires : (t : ℕ) → write-made-lts.Need-made-of-requires (
   clamp-reads.Asked,
   clamp-reads.Learnt,
@@ -1351,7 +1279,6 @@ write-made-made-of-requires : (t : ℕ) → write-made-lts.Need-made-of-requires
 ) (write-made-at t) write-made.Post
 write-made-made-of-requires t c κs = search needs
 
--- src/value.rt:313:22
 write-made-enum-known-made : (t : ℕ) → write-made-lts.Need-enum-known-made (
   clamp-reads.Asked,
   clamp-reads.Learnt,
@@ -1364,7 +1291,6 @@ write-made-enum-known-made : (t : ℕ) → write-made-lts.Need-enum-known-made (
 ) (write-made-at t) write-made.Post
 write-made-enum-known-made t c = search needs
 
--- src/value.rt:313:30
 write-made-write-named-requires : (t : ℕ) → write-made-lts.Need-write-named-requires (
   clamp-reads.Asked,
   clamp-reads.Learnt,
@@ -1377,7 +1303,6 @@ write-made-write-named-requires : (t : ℕ) → write-made-lts.Need-write-named-
 ) (write-made-at t) write-made.Post
 write-made-write-named-requires t c κs = search needs
 
--- src/value.rt:314:22
 write-made-enum-known-made-2 : (t : ℕ) → write-made-lts.Need-enum-known-made-2 (
   clamp-reads.Asked,
   clamp-reads.Learnt,
@@ -1390,7 +1315,6 @@ write-made-enum-known-made-2 : (t : ℕ) → write-made-lts.Need-enum-known-made
 ) (write-made-at t) write-made.Post
 write-made-enum-known-made-2 t c = search needs
 
--- src/value.rt:314:30
 write-made-write-record-requires : (t : ℕ) → write-made-lts.Need-write-record-requires (
   clamp-reads.Asked,
   clamp-reads.Learnt,
@@ -1403,7 +1327,6 @@ write-made-write-record-requires : (t : ℕ) → write-made-lts.Need-write-recor
 ) (write-made-at t) write-made.Post
 write-made-write-record-requires t c κs = search needs
 
--- src/value.rt:327:25
 write-made-enum-told : (t : ℕ) → write-made-lts.Need-enum-told (
   clamp-reads.Asked,
   clamp-reads.Learnt,
@@ -1416,7 +1339,6 @@ write-made-enum-told : (t : ℕ) → write-made-lts.Need-enum-told (
 ) (write-made-at t) write-made.Post
 write-made-enum-told t c = search needs
 
--- src/value.rt:292:1
 write-made-same-length : (t : ℕ) → write-made-lts.Need-same-length (
   clamp-reads.Asked,
   clamp-reads.Learnt,
@@ -1429,7 +1351,6 @@ write-made-same-length : (t : ℕ) → write-made-lts.Need-same-length (
 ) (write-made-at t) write-made.Post
 write-made-same-length t c = search needs
 
--- src/value.rt:292:1
 write-made-returns : (t : ℕ) → write-made-lts.Need-returns (
   clamp-reads.Asked,
   clamp-reads.Learnt,
@@ -1440,9 +1361,8 @@ write-made-returns : (t : ℕ) → write-made-lts.Need-returns (
   write-record-below t,
   write-record.Post,
 ) (write-made-at t) write-made.Post
-write-made-returns t c = made-entity (c .before .before .before .before .before .before .before .before .before .before .before .before .before .before .before .before .before .args .sorts .now) (c .before .before .before .before .before .before .before .before .before .before .before .before .before .before .before .before .before .args .members .now) (c .before .before .before .before .before .before .before .before .before .before .before .before .before .before .before .before .before .args .names .now) (c .before .before .before .before .before .before .before .before .before .before .before .before .before .before .before .before .before .args .nodes .now) (c .before .before .before .before .before .before .before .before .before .before .before .before .before .before .before .before .before .args .text .now) (c .before .before .before .before .before .before .before .before .before .before .before .before .before .before .before .before .before .args .offset) (c .before .before .before .before .before .before .before .before .before .before .before .before .before .before .before .before .before .args .length) (c .before .before .before .before .before .before .before .before .before .before .before .before .before .before .before .before .before .args .first) (c .before .before .before .before .before .before .before .before .before .before .before .before .before .before .before .before .before .args .count) (c .before .before .before .before .before .before .before .before .before .before .before .before .before .before .before .before .before .args .allow) _ _ _ _ (range-holds (c .before .before .before .before .before .before .before .before .before .before .before .before .before .before .before .before .before .args .text .now) _ _ _ (c .before .before .before .before .before .before .before .before .before .clamp .ensures)) (c .before .before .before .before .before .before .before .made-of .result) (c .before .before .before .before .before .before .before .made-of .ensures) _ (c .before .before .before .before .before .made .given .1) (c .before .before .write-named .ensures)
+write-made-returns t c = let a = c .before .before .before .before .before .before .before .before .before .before .before .before .before .before .before .before .before .args in made-entity (a .sorts .now) (a .members .now) (a .names .now) (a .nodes .now) (a .text .now) (a .offset) (a .length) (a .first) (a .count) (a .allow) _ _ _ _ (range-holds (a .text .now) _ _ _ (c .before .before .before .before .before .before .before .before .before .clamp .ensures)) (c .before .before .before .before .before .before .before .made-of .result) (c .before .before .before .before .before .before .before .made-of .ensures) _ (c .before .before .before .before .before .made .given .1) (c .before .before .write-named .ensures)
 
--- src/value.rt:292:1
 write-made-same-length-2 : (t : ℕ) → write-made-lts.Need-same-length-2 (
   clamp-reads.Asked,
   clamp-reads.Learnt,
@@ -1455,7 +1375,6 @@ write-made-same-length-2 : (t : ℕ) → write-made-lts.Need-same-length-2 (
 ) (write-made-at t) write-made.Post
 write-made-same-length-2 t c = search needs
 
--- src/value.rt:292:1
 write-made-same-length-3 : (t : ℕ) → write-made-lts.Need-same-length-3 (
   clamp-reads.Asked,
   clamp-reads.Learnt,
@@ -1468,7 +1387,6 @@ write-made-same-length-3 : (t : ℕ) → write-made-lts.Need-same-length-3 (
 ) (write-made-at t) write-made.Post
 write-made-same-length-3 t c = search needs
 
--- src/value.rt:292:1
 write-made-returns-2 : (t : ℕ) → write-made-lts.Need-returns-2 (
   clamp-reads.Asked,
   clamp-reads.Learnt,
@@ -1479,9 +1397,8 @@ write-made-returns-2 : (t : ℕ) → write-made-lts.Need-returns-2 (
   write-record-below t,
   write-record.Post,
 ) (write-made-at t) write-made.Post
-write-made-returns-2 t c = made-record (c .before .before .before .before .before .before .before .before .before .before .before .before .before .before .before .before .before .before .before .before .args .sorts .now) (c .before .before .before .before .before .before .before .before .before .before .before .before .before .before .before .before .before .before .before .before .args .members .now) (c .before .before .before .before .before .before .before .before .before .before .before .before .before .before .before .before .before .before .before .before .args .names .now) (c .before .before .before .before .before .before .before .before .before .before .before .before .before .before .before .before .before .before .before .before .args .nodes .now) (c .before .before .before .before .before .before .before .before .before .before .before .before .before .before .before .before .before .before .before .before .args .text .now) (c .before .before .before .before .before .before .before .before .before .before .before .before .before .before .before .before .before .before .before .before .args .offset) (c .before .before .before .before .before .before .before .before .before .before .before .before .before .before .before .before .before .before .before .before .args .length) (c .before .before .before .before .before .before .before .before .before .before .before .before .before .before .before .before .before .before .before .before .args .first) (c .before .before .before .before .before .before .before .before .before .before .before .before .before .before .before .before .before .before .before .before .args .count) (c .before .before .before .before .before .before .before .before .before .before .before .before .before .before .before .before .before .before .before .before .args .allow) _ _ _ _ (range-holds (c .before .before .before .before .before .before .before .before .before .before .before .before .before .before .before .before .before .before .before .before .args .text .now) _ _ _ (c .before .before .before .before .before .before .before .before .before .before .before .before .clamp .ensures)) (c .before .before .before .before .before .before .before .before .before .before .made-of .result) (c .before .before .before .before .before .before .before .before .before .before .made-of .ensures) _ (c .before .before .before .before .before .before .before .before .made2 .given .1) (c .before .before .before .before .write-record .ensures)
+write-made-returns-2 t c = let a = c .before .before .before .before .before .before .before .before .before .before .before .before .before .before .before .before .before .before .before .before .args in made-record (a .sorts .now) (a .members .now) (a .names .now) (a .nodes .now) (a .text .now) (a .offset) (a .length) (a .first) (a .count) (a .allow) _ _ _ _ (range-holds (a .text .now) _ _ _ (c .before .before .before .before .before .before .before .before .before .before .before .before .clamp .ensures)) (c .before .before .before .before .before .before .before .before .before .before .made-of .result) (c .before .before .before .before .before .before .before .before .before .before .made-of .ensures) _ (c .before .before .before .before .before .before .before .before .made2 .given .1) (c .before .before .before .before .write-record .ensures)
 
--- src/value.rt:292:1
 write-made-returns-3 : (t : ℕ) → write-made-lts.Need-returns-3 (
   clamp-reads.Asked,
   clamp-reads.Learnt,
@@ -1492,9 +1409,8 @@ write-made-returns-3 : (t : ℕ) → write-made-lts.Need-returns-3 (
   write-record-below t,
   write-record.Post,
 ) (write-made-at t) write-made.Post
-write-made-returns-3 t c = made-nothing (c .before .before .before .before .before .before .before .before .before .before .before .before .args .sorts .now) (c .before .before .before .before .before .before .before .before .before .before .before .before .args .members .now) (c .before .before .before .before .before .before .before .before .before .before .before .before .args .names .now) (c .before .before .before .before .before .before .before .before .before .before .before .before .args .nodes .now) (c .before .before .before .before .before .before .before .before .before .before .before .before .args .text .now) (c .before .before .before .before .before .before .before .before .before .before .before .before .args .offset) (c .before .before .before .before .before .before .before .before .before .before .before .before .args .length) (c .before .before .before .before .before .before .before .before .before .before .before .before .args .first) (c .before .before .before .before .before .before .before .before .before .before .before .before .args .count) (c .before .before .before .before .before .before .before .before .before .before .before .before .args .allow) _ _ _ _ (range-holds (c .before .before .before .before .before .before .before .before .before .before .before .before .args .text .now) _ _ _ (c .before .before .before .before .clamp .ensures)) (c .before .before .made-of .result) (c .before .before .made-of .ensures) (c .enum-told .given .1)
+write-made-returns-3 t c = let a = c .before .before .before .before .before .before .before .before .before .before .before .before .args in made-nothing (a .sorts .now) (a .members .now) (a .names .now) (a .nodes .now) (a .text .now) (a .offset) (a .length) (a .first) (a .count) (a .allow) _ _ _ _ (range-holds (a .text .now) _ _ _ (c .before .before .before .before .clamp .ensures)) (c .before .before .made-of .result) (c .before .before .made-of .ensures) (c .enum-told .given .1)
 
--- src/value.rt:102:9
 write-members-shape-at-requires : (t : ℕ) → write-members-lts.Need-shape-at-requires (
   shape-at-reads.Asked,
   shape-at-reads.Learnt,
@@ -1507,7 +1423,6 @@ write-members-shape-at-requires : (t : ℕ) → write-members-lts.Need-shape-at-
 ) (write-members-at t) write-members.Post
 write-members-shape-at-requires t c κs = search needs
 
--- src/value.rt:104:28
 write-members-enum-told : (t : ℕ) → write-members-lts.Need-enum-told (
   shape-at-reads.Asked,
   shape-at-reads.Learnt,
@@ -1520,7 +1435,6 @@ write-members-enum-told : (t : ℕ) → write-members-lts.Need-enum-told (
 ) (write-members-at t) write-members.Post
 write-members-enum-told t c = search needs
 
--- src/value.rt:105:38
 write-members-enum-told-2 : (t : ℕ) → write-members-lts.Need-enum-told-2 (
   shape-at-reads.Asked,
   shape-at-reads.Learnt,
@@ -1533,7 +1447,6 @@ write-members-enum-told-2 : (t : ℕ) → write-members-lts.Need-enum-told-2 (
 ) (write-members-at t) write-members.Post
 write-members-enum-told-2 t c = search needs
 
--- src/value.rt:106:48
 write-members-enum-told-3 : (t : ℕ) → write-members-lts.Need-enum-told-3 (
   shape-at-reads.Asked,
   shape-at-reads.Learnt,
@@ -1546,7 +1459,6 @@ write-members-enum-told-3 : (t : ℕ) → write-members-lts.Need-enum-told-3 (
 ) (write-members-at t) write-members.Post
 write-members-enum-told-3 t c = search needs
 
--- src/value.rt:107:39
 write-members-enum-told-4 : (t : ℕ) → write-members-lts.Need-enum-told-4 (
   shape-at-reads.Asked,
   shape-at-reads.Learnt,
@@ -1559,7 +1471,6 @@ write-members-enum-told-4 : (t : ℕ) → write-members-lts.Need-enum-told-4 (
 ) (write-members-at t) write-members.Post
 write-members-enum-told-4 t c = search needs
 
--- src/value.rt:108:39
 write-members-enum-told-5 : (t : ℕ) → write-members-lts.Need-enum-told-5 (
   shape-at-reads.Asked,
   shape-at-reads.Learnt,
@@ -1572,7 +1483,6 @@ write-members-enum-told-5 : (t : ℕ) → write-members-lts.Need-enum-told-5 (
 ) (write-members-at t) write-members.Post
 write-members-enum-told-5 t c = search needs
 
--- src/value.rt:109:28
 write-members-enum-known-shape : (t : ℕ) → write-members-lts.Need-enum-known-shape (
   shape-at-reads.Asked,
   shape-at-reads.Learnt,
@@ -1585,7 +1495,6 @@ write-members-enum-known-shape : (t : ℕ) → write-members-lts.Need-enum-known
 ) (write-members-at t) write-members.Post
 write-members-enum-known-shape t c = search needs
 
--- src/value.rt:110:17
 write-members-write-inside-requires : (t : ℕ) → write-members-lts.Need-write-inside-requires (
   shape-at-reads.Asked,
   shape-at-reads.Learnt,
@@ -1598,7 +1507,6 @@ write-members-write-inside-requires : (t : ℕ) → write-members-lts.Need-write
 ) (write-members-at t) write-members.Post
 write-members-write-inside-requires t c κs = search needs
 
--- src/value.rt:122:17
 write-members-slice-aggregate-put : (t : ℕ) → write-members-lts.Need-slice-aggregate-put (
   shape-at-reads.Asked,
   shape-at-reads.Learnt,
@@ -1611,7 +1519,6 @@ write-members-slice-aggregate-put : (t : ℕ) → write-members-lts.Need-slice-a
 ) (write-members-at t) write-members.Post
 write-members-slice-aggregate-put t c = search needs
 
--- src/value.rt:122:13
 write-members-put-requires : (t : ℕ) → write-members-lts.Need-put-requires (
   shape-at-reads.Asked,
   shape-at-reads.Learnt,
@@ -1624,7 +1531,6 @@ write-members-put-requires : (t : ℕ) → write-members-lts.Need-put-requires (
 ) (write-members-at t) write-members.Post
 write-members-put-requires t c κs = search needs
 
--- src/value.rt:124:24
 write-members-enum-known-shape-2 : (t : ℕ) → write-members-lts.Need-enum-known-shape-2 (
   shape-at-reads.Asked,
   shape-at-reads.Learnt,
@@ -1637,7 +1543,6 @@ write-members-enum-known-shape-2 : (t : ℕ) → write-members-lts.Need-enum-kno
 ) (write-members-at t) write-members.Post
 write-members-enum-known-shape-2 t c = search needs
 
--- src/value.rt:126:17
 write-members-returns : (t : ℕ) → write-members-lts.Need-returns (
   shape-at-reads.Asked,
   shape-at-reads.Learnt,
@@ -1648,9 +1553,8 @@ write-members-returns : (t : ℕ) → write-members-lts.Need-returns (
   write-members-below t,
   write-members.Post,
 ) (write-members-at t) write-members.Post
-write-members-returns t c = members-nested (c .before .before .before .before .before .before .before .before .before .before .before .before .args .sorts .now) (c .before .before .before .before .before .before .before .before .before .before .before .before .args .members .now) (c .before .before .before .before .before .before .before .before .before .before .before .before .args .names .now) (c .before .before .before .before .before .before .before .before .before .before .before .before .args .nodes .now) (c .before .before .before .before .before .before .before .before .before .before .before .before .args .text .now) (c .before .before .before .before .before .before .before .before .before .before .before .before .args .at) (c .before .before .before .before .shape-at .result) (c .before .before .before .before .shape-at .ensures) (c .before .before .before .before .before .before .before .before .before .before .before .before .args .below) _ _ (c .before .before .shape2 .given .1) _ _ (c .if1 .taken)
+write-members-returns t c = let a = c .before .before .before .before .before .before .before .before .before .before .before .before .args in members-nested (a .sorts .now) (a .members .now) (a .names .now) (a .nodes .now) (a .text .now) (a .at) (c .before .before .before .before .shape-at .result) (c .before .before .before .before .shape-at .ensures) (a .below) _ _ (c .before .before .shape2 .given .1) _ _ (c .if1 .taken)
 
--- src/value.rt:135:17
 write-members-sub-write-members : (t : ℕ) → write-members-lts.Need-sub-write-members (
   shape-at-reads.Asked,
   shape-at-reads.Learnt,
@@ -1663,7 +1567,6 @@ write-members-sub-write-members : (t : ℕ) → write-members-lts.Need-sub-write
 ) (write-members-at t) write-members.Post
 write-members-sub-write-members t c = search needs
 
--- src/value.rt:128:17
 write-members-write-members-requires : (t : ℕ) → write-members-lts.Need-write-members-requires (
   shape-at-reads.Asked,
   shape-at-reads.Learnt,
@@ -1676,7 +1579,6 @@ write-members-write-members-requires : (t : ℕ) → write-members-lts.Need-writ
 ) (write-members-at t) write-members.Post
 write-members-write-members-requires t c κs = search needs
 
--- src/value.rt:147:17
 write-members-sub-write-members-2 : (t : ℕ) → write-members-lts.Need-sub-write-members-2 (
   shape-at-reads.Asked,
   shape-at-reads.Learnt,
@@ -1689,7 +1591,6 @@ write-members-sub-write-members-2 : (t : ℕ) → write-members-lts.Need-sub-wri
 ) (write-members-at t) write-members.Post
 write-members-sub-write-members-2 t c = search needs
 
--- src/value.rt:140:13
 write-members-write-members-requires-2 : (t : ℕ) → write-members-lts.Need-write-members-requires-2 (
   shape-at-reads.Asked,
   shape-at-reads.Learnt,
@@ -1702,7 +1603,6 @@ write-members-write-members-requires-2 : (t : ℕ) → write-members-lts.Need-wr
 ) (write-members-at t) write-members.Post
 write-members-write-members-requires-2 t c κs = search needs
 
--- src/value.rt:153:49
 write-members-enum-told-6 : (t : ℕ) → write-members-lts.Need-enum-told-6 (
   shape-at-reads.Asked,
   shape-at-reads.Learnt,
@@ -1715,7 +1615,6 @@ write-members-enum-told-6 : (t : ℕ) → write-members-lts.Need-enum-told-6 (
 ) (write-members-at t) write-members.Post
 write-members-enum-told-6 t c = search needs
 
--- src/value.rt:159:14
 write-members-enum-told-7 : (t : ℕ) → write-members-lts.Need-enum-told-7 (
   shape-at-reads.Asked,
   shape-at-reads.Learnt,
@@ -1728,7 +1627,6 @@ write-members-enum-told-7 : (t : ℕ) → write-members-lts.Need-enum-told-7 (
 ) (write-members-at t) write-members.Post
 write-members-enum-told-7 t c = search needs
 
--- src/value.rt:165:14
 write-members-enum-told-8 : (t : ℕ) → write-members-lts.Need-enum-told-8 (
   shape-at-reads.Asked,
   shape-at-reads.Learnt,
@@ -1741,7 +1639,6 @@ write-members-enum-told-8 : (t : ℕ) → write-members-lts.Need-enum-told-8 (
 ) (write-members-at t) write-members.Post
 write-members-enum-told-8 t c = search needs
 
--- src/value.rt:166:25
 write-members-enum-told-9 : (t : ℕ) → write-members-lts.Need-enum-told-9 (
   shape-at-reads.Asked,
   shape-at-reads.Learnt,
@@ -1754,7 +1651,6 @@ write-members-enum-told-9 : (t : ℕ) → write-members-lts.Need-enum-told-9 (
 ) (write-members-at t) write-members.Post
 write-members-enum-told-9 t c = search needs
 
--- src/value.rt:88:1
 write-members-returns-2 : (t : ℕ) → write-members-lts.Need-returns-2 (
   shape-at-reads.Asked,
   shape-at-reads.Learnt,
@@ -1765,9 +1661,8 @@ write-members-returns-2 : (t : ℕ) → write-members-lts.Need-returns-2 (
   write-members-below t,
   write-members.Post,
 ) (write-members-at t) write-members.Post
-write-members-returns-2 t c = members-other (c .before .before .before .before .before .before .before .before .before .before .args .sorts .now) (c .before .before .before .before .before .before .before .before .before .before .args .members .now) (c .before .before .before .before .before .before .before .before .before .before .args .names .now) (c .before .before .before .before .before .before .before .before .before .before .args .nodes .now) (c .before .before .before .before .before .before .before .before .before .before .args .text .now) (c .before .before .before .before .before .before .before .before .before .before .args .at) (c .before .before .shape-at .result) (c .before .before .shape-at .ensures) (c .before .before .before .before .before .before .before .before .before .before .args .below) _ (c .before .before .before .before .before .before .before .before .before .before .args .place) (ap setFound (c .enum-told .given .1))
+write-members-returns-2 t c = let a = c .before .before .before .before .before .before .before .before .before .before .args in members-other (a .sorts .now) (a .members .now) (a .names .now) (a .nodes .now) (a .text .now) (a .at) (c .before .before .shape-at .result) (c .before .before .shape-at .ensures) (a .below) _ (a .place) (ap setFound (c .enum-told .given .1))
 
--- src/value.rt:88:1
 write-members-returns-3 : (t : ℕ) → write-members-lts.Need-returns-3 (
   shape-at-reads.Asked,
   shape-at-reads.Learnt,
@@ -1778,9 +1673,8 @@ write-members-returns-3 : (t : ℕ) → write-members-lts.Need-returns-3 (
   write-members-below t,
   write-members.Post,
 ) (write-members-at t) write-members.Post
-write-members-returns-3 t c = members-other (c .before .before .before .before .before .before .before .before .before .before .args .sorts .now) (c .before .before .before .before .before .before .before .before .before .before .args .members .now) (c .before .before .before .before .before .before .before .before .before .before .args .names .now) (c .before .before .before .before .before .before .before .before .before .before .args .nodes .now) (c .before .before .before .before .before .before .before .before .before .before .args .text .now) (c .before .before .before .before .before .before .before .before .before .before .args .at) (c .before .before .shape-at .result) (c .before .before .shape-at .ensures) (c .before .before .before .before .before .before .before .before .before .before .args .below) _ (c .before .before .before .before .before .before .before .before .before .before .args .place) (ap setFound (c .enum-told2 .given .1))
+write-members-returns-3 t c = let a = c .before .before .before .before .before .before .before .before .before .before .args in members-other (a .sorts .now) (a .members .now) (a .names .now) (a .nodes .now) (a .text .now) (a .at) (c .before .before .shape-at .result) (c .before .before .shape-at .ensures) (a .below) _ (a .place) (ap setFound (c .enum-told2 .given .1))
 
--- src/value.rt:88:1
 write-members-returns-4 : (t : ℕ) → write-members-lts.Need-returns-4 (
   shape-at-reads.Asked,
   shape-at-reads.Learnt,
@@ -1791,9 +1685,8 @@ write-members-returns-4 : (t : ℕ) → write-members-lts.Need-returns-4 (
   write-members-below t,
   write-members.Post,
 ) (write-members-at t) write-members.Post
-write-members-returns-4 t c = members-other (c .before .before .before .before .before .before .before .before .before .before .args .sorts .now) (c .before .before .before .before .before .before .before .before .before .before .args .members .now) (c .before .before .before .before .before .before .before .before .before .before .args .names .now) (c .before .before .before .before .before .before .before .before .before .before .args .nodes .now) (c .before .before .before .before .before .before .before .before .before .before .args .text .now) (c .before .before .before .before .before .before .before .before .before .before .args .at) (c .before .before .shape-at .result) (c .before .before .shape-at .ensures) (c .before .before .before .before .before .before .before .before .before .before .args .below) _ (c .before .before .before .before .before .before .before .before .before .before .args .place) (ap setFound (c .enum-told3 .given .1))
+write-members-returns-4 t c = let a = c .before .before .before .before .before .before .before .before .before .before .args in members-other (a .sorts .now) (a .members .now) (a .names .now) (a .nodes .now) (a .text .now) (a .at) (c .before .before .shape-at .result) (c .before .before .shape-at .ensures) (a .below) _ (a .place) (ap setFound (c .enum-told3 .given .1))
 
--- src/value.rt:88:1
 write-members-returns-5 : (t : ℕ) → write-members-lts.Need-returns-5 (
   shape-at-reads.Asked,
   shape-at-reads.Learnt,
@@ -1804,9 +1697,8 @@ write-members-returns-5 : (t : ℕ) → write-members-lts.Need-returns-5 (
   write-members-below t,
   write-members.Post,
 ) (write-members-at t) write-members.Post
-write-members-returns-5 t c = members-other (c .before .before .before .before .before .before .before .before .before .before .args .sorts .now) (c .before .before .before .before .before .before .before .before .before .before .args .members .now) (c .before .before .before .before .before .before .before .before .before .before .args .names .now) (c .before .before .before .before .before .before .before .before .before .before .args .nodes .now) (c .before .before .before .before .before .before .before .before .before .before .args .text .now) (c .before .before .before .before .before .before .before .before .before .before .args .at) (c .before .before .shape-at .result) (c .before .before .shape-at .ensures) (c .before .before .before .before .before .before .before .before .before .before .args .below) _ (c .before .before .before .before .before .before .before .before .before .before .args .place) (ap setFound (c .enum-told4 .given .1))
+write-members-returns-5 t c = let a = c .before .before .before .before .before .before .before .before .before .before .args in members-other (a .sorts .now) (a .members .now) (a .names .now) (a .nodes .now) (a .text .now) (a .at) (c .before .before .shape-at .result) (c .before .before .shape-at .ensures) (a .below) _ (a .place) (ap setFound (c .enum-told4 .given .1))
 
--- src/value.rt:88:1
 write-members-returns-6 : (t : ℕ) → write-members-lts.Need-returns-6 (
   shape-at-reads.Asked,
   shape-at-reads.Learnt,
@@ -1817,9 +1709,8 @@ write-members-returns-6 : (t : ℕ) → write-members-lts.Need-returns-6 (
   write-members-below t,
   write-members.Post,
 ) (write-members-at t) write-members.Post
-write-members-returns-6 t c = members-empty (c .before .before .before .before .before .before .before .before .before .before .args .sorts .now) (c .before .before .before .before .before .before .before .before .before .before .args .members .now) (c .before .before .before .before .before .before .before .before .before .before .args .names .now) (c .before .before .before .before .before .before .before .before .before .before .args .nodes .now) (c .before .before .before .before .before .before .before .before .before .before .args .text .now) (c .before .before .before .before .before .before .before .before .before .before .args .at) (c .before .before .shape-at .result) (c .before .before .shape-at .ensures) (c .before .before .before .before .before .before .before .before .before .before .args .below) _ (c .before .before .before .before .before .before .before .before .before .before .args .place) _ (c .enum-told5 .given .1)
+write-members-returns-6 t c = let a = c .before .before .before .before .before .before .before .before .before .before .args in members-empty (a .sorts .now) (a .members .now) (a .names .now) (a .nodes .now) (a .text .now) (a .at) (c .before .before .shape-at .result) (c .before .before .shape-at .ensures) (a .below) _ (a .place) _ (c .enum-told5 .given .1)
 
--- src/value.rt:88:1
 write-members-same-length : (t : ℕ) → write-members-lts.Need-same-length (
   shape-at-reads.Asked,
   shape-at-reads.Learnt,
@@ -1832,7 +1723,6 @@ write-members-same-length : (t : ℕ) → write-members-lts.Need-same-length (
 ) (write-members-at t) write-members.Post
 write-members-same-length t c = search needs
 
--- src/value.rt:88:1
 write-members-same-length-2 : (t : ℕ) → write-members-lts.Need-same-length-2 (
   shape-at-reads.Asked,
   shape-at-reads.Learnt,
@@ -1845,7 +1735,6 @@ write-members-same-length-2 : (t : ℕ) → write-members-lts.Need-same-length-2
 ) (write-members-at t) write-members.Post
 write-members-same-length-2 t c = search needs
 
--- src/value.rt:88:1
 write-members-returns-7 : (t : ℕ) → write-members-lts.Need-returns-7 (
   shape-at-reads.Asked,
   shape-at-reads.Learnt,
@@ -1856,9 +1745,8 @@ write-members-returns-7 : (t : ℕ) → write-members-lts.Need-returns-7 (
   write-members-below t,
   write-members.Post,
 ) (write-members-at t) write-members.Post
-write-members-returns-7 t c = members-one (c .before .before .before .before .before .before .before .before .before .before .before .before .before .before .before .before .before .before .before .before .before .before .before .args .sorts .now) (c .before .before .before .before .before .before .before .before .before .before .before .before .before .before .before .before .before .before .before .before .before .before .before .args .members .now) (c .before .before .before .before .before .before .before .before .before .before .before .before .before .before .before .before .before .before .before .before .before .before .before .args .names .now) (c .before .before .before .before .before .before .before .before .before .before .before .before .before .before .before .before .before .before .before .before .before .before .before .args .nodes .now) (c .before .before .before .before .before .before .before .before .before .before .before .before .before .before .before .before .before .before .before .before .before .before .before .args .text .now) (c .before .before .before .before .before .before .before .before .before .before .before .before .before .before .before .before .before .before .before .before .before .before .before .args .at) (c .before .before .before .before .before .before .before .before .before .before .before .before .before .before .before .shape-at .result) (c .before .before .before .before .before .before .before .before .before .before .before .before .before .before .before .shape-at .ensures) (c .before .before .before .before .before .before .before .before .before .before .before .before .before .before .before .before .before .before .before .before .before .before .before .args .below) _ _ _ (c .before .before .before .before .before .before .before .before .before .before .before .before .before .before .before .before .before .before .before .before .before .before .before .args .place) _ _ _ (c .before .before .before .before .before .before .before .before .before .before .before .before .before .shape .given .1) (c .before .before .before .before .before .before .before .before .before .write-inside .ensures) (c .before .before .put .ensures)
+write-members-returns-7 t c = let a = c .before .before .before .before .before .before .before .before .before .before .before .before .before .before .before .before .before .before .before .before .before .before .before .args in members-one (a .sorts .now) (a .members .now) (a .names .now) (a .nodes .now) (a .text .now) (a .at) (c .before .before .before .before .before .before .before .before .before .before .before .before .before .before .before .shape-at .result) (c .before .before .before .before .before .before .before .before .before .before .before .before .before .before .before .shape-at .ensures) (a .below) _ _ _ (a .place) _ _ _ (c .before .before .before .before .before .before .before .before .before .before .before .before .before .shape .given .1) (c .before .before .before .before .before .before .before .before .before .write-inside .ensures) (c .before .before .put .ensures)
 
--- src/value.rt:88:1
 write-members-same-length-3 : (t : ℕ) → write-members-lts.Need-same-length-3 (
   shape-at-reads.Asked,
   shape-at-reads.Learnt,
@@ -1871,7 +1759,6 @@ write-members-same-length-3 : (t : ℕ) → write-members-lts.Need-same-length-3
 ) (write-members-at t) write-members.Post
 write-members-same-length-3 t c = search needs
 
--- src/value.rt:88:1
 write-members-same-length-4 : (t : ℕ) → write-members-lts.Need-same-length-4 (
   shape-at-reads.Asked,
   shape-at-reads.Learnt,
@@ -1884,7 +1771,6 @@ write-members-same-length-4 : (t : ℕ) → write-members-lts.Need-same-length-4
 ) (write-members-at t) write-members.Post
 write-members-same-length-4 t c = search needs
 
--- src/value.rt:88:1
 write-members-returns-8 : (t : ℕ) → write-members-lts.Need-returns-8 (
   shape-at-reads.Asked,
   shape-at-reads.Learnt,
@@ -1895,9 +1781,8 @@ write-members-returns-8 : (t : ℕ) → write-members-lts.Need-returns-8 (
   write-members-below t,
   write-members.Post,
 ) (write-members-at t) write-members.Post
-write-members-returns-8 t c = members-two (c .before .before .before .before .before .before .before .before .before .before .before .before .before .before .before .before .before .before .before .before .before .before .before .before .before .before .args .sorts .now) (c .before .before .before .before .before .before .before .before .before .before .before .before .before .before .before .before .before .before .before .before .before .before .before .before .before .before .args .members .now) (c .before .before .before .before .before .before .before .before .before .before .before .before .before .before .before .before .before .before .before .before .before .before .before .before .before .before .args .names .now) (c .before .before .before .before .before .before .before .before .before .before .before .before .before .before .before .before .before .before .before .before .before .before .before .before .before .before .args .nodes .now) (c .before .before .before .before .before .before .before .before .before .before .before .before .before .before .before .before .before .before .before .before .before .before .before .before .before .before .args .text .now) (c .before .before .before .before .before .before .before .before .before .before .before .before .before .before .before .before .before .before .before .before .before .before .before .before .before .before .args .at) (c .before .before .before .before .before .before .before .before .before .before .before .before .before .before .before .before .before .before .shape-at .result) (c .before .before .before .before .before .before .before .before .before .before .before .before .before .before .before .before .before .before .shape-at .ensures) (c .before .before .before .before .before .before .before .before .before .before .before .before .before .before .before .before .before .before .before .before .before .before .before .before .before .before .args .below) _ _ (c .before .before .before .before .before .before .before .before .before .before .before .before .before .before .before .before .shape2 .given .1) _ _ _ (c .before .before .before .before .before .before .before .before .before .before .before .before .before .before .before .before .before .before .before .before .before .before .before .before .before .before .args .place) _ _ (c .before .before .before .before .before .before .before .before .before .before .before .before .before .before .if1 .left) (c .before .before .before .before .before .before .before .before .before .before .before .write-members .ensures) (c .before .before .before .before .write-members2 .ensures)
+write-members-returns-8 t c = let a = c .before .before .before .before .before .before .before .before .before .before .before .before .before .before .before .before .before .before .before .before .before .before .before .before .before .before .args in members-two (a .sorts .now) (a .members .now) (a .names .now) (a .nodes .now) (a .text .now) (a .at) (c .before .before .before .before .before .before .before .before .before .before .before .before .before .before .before .before .before .before .shape-at .result) (c .before .before .before .before .before .before .before .before .before .before .before .before .before .before .before .before .before .before .shape-at .ensures) (a .below) _ _ (c .before .before .before .before .before .before .before .before .before .before .before .before .before .before .before .before .shape2 .given .1) _ _ _ (a .place) _ _ (c .before .before .before .before .before .before .before .before .before .before .before .before .before .before .if1 .left) (c .before .before .before .before .before .before .before .before .before .before .before .write-members .ensures) (c .before .before .before .before .write-members2 .ensures)
 
--- src/value.rt:88:1
 write-members-returns-9 : (t : ℕ) → write-members-lts.Need-returns-9 (
   shape-at-reads.Asked,
   shape-at-reads.Learnt,
@@ -1908,9 +1793,8 @@ write-members-returns-9 : (t : ℕ) → write-members-lts.Need-returns-9 (
   write-members-below t,
   write-members.Post,
 ) (write-members-at t) write-members.Post
-write-members-returns-9 t c = members-other (c .before .before .before .before .before .before .before .before .before .before .args .sorts .now) (c .before .before .before .before .before .before .before .before .before .before .args .members .now) (c .before .before .before .before .before .before .before .before .before .before .args .names .now) (c .before .before .before .before .before .before .before .before .before .before .args .nodes .now) (c .before .before .before .before .before .before .before .before .before .before .args .text .now) (c .before .before .before .before .before .before .before .before .before .before .args .at) (c .before .before .shape-at .result) (c .before .before .shape-at .ensures) (c .before .before .before .before .before .before .before .before .before .before .args .below) _ (c .before .before .before .before .before .before .before .before .before .before .args .place) (ap setFound (c .enum-told6 .given .1))
+write-members-returns-9 t c = let a = c .before .before .before .before .before .before .before .before .before .before .args in members-other (a .sorts .now) (a .members .now) (a .names .now) (a .nodes .now) (a .text .now) (a .at) (c .before .before .shape-at .result) (c .before .before .shape-at .ensures) (a .below) _ (a .place) (ap setFound (c .enum-told6 .given .1))
 
--- src/value.rt:88:1
 write-members-returns-10 : (t : ℕ) → write-members-lts.Need-returns-10 (
   shape-at-reads.Asked,
   shape-at-reads.Learnt,
@@ -1921,9 +1805,8 @@ write-members-returns-10 : (t : ℕ) → write-members-lts.Need-returns-10 (
   write-members-below t,
   write-members.Post,
 ) (write-members-at t) write-members.Post
-write-members-returns-10 t c = members-other (c .before .before .before .before .before .before .before .before .before .before .args .sorts .now) (c .before .before .before .before .before .before .before .before .before .before .args .members .now) (c .before .before .before .before .before .before .before .before .before .before .args .names .now) (c .before .before .before .before .before .before .before .before .before .before .args .nodes .now) (c .before .before .before .before .before .before .before .before .before .before .args .text .now) (c .before .before .before .before .before .before .before .before .before .before .args .at) (c .before .before .shape-at .result) (c .before .before .shape-at .ensures) (c .before .before .before .before .before .before .before .before .before .before .args .below) _ (c .before .before .before .before .before .before .before .before .before .before .args .place) (ap setFound (c .enum-told7 .given .1))
+write-members-returns-10 t c = let a = c .before .before .before .before .before .before .before .before .before .before .args in members-other (a .sorts .now) (a .members .now) (a .names .now) (a .nodes .now) (a .text .now) (a .at) (c .before .before .shape-at .result) (c .before .before .shape-at .ensures) (a .below) _ (a .place) (ap setFound (c .enum-told7 .given .1))
 
--- src/value.rt:88:1
 write-members-returns-11 : (t : ℕ) → write-members-lts.Need-returns-11 (
   shape-at-reads.Asked,
   shape-at-reads.Learnt,
@@ -1934,9 +1817,8 @@ write-members-returns-11 : (t : ℕ) → write-members-lts.Need-returns-11 (
   write-members-below t,
   write-members.Post,
 ) (write-members-at t) write-members.Post
-write-members-returns-11 t c = members-other (c .before .before .before .before .before .before .before .before .before .before .args .sorts .now) (c .before .before .before .before .before .before .before .before .before .before .args .members .now) (c .before .before .before .before .before .before .before .before .before .before .args .names .now) (c .before .before .before .before .before .before .before .before .before .before .args .nodes .now) (c .before .before .before .before .before .before .before .before .before .before .args .text .now) (c .before .before .before .before .before .before .before .before .before .before .args .at) (c .before .before .shape-at .result) (c .before .before .shape-at .ensures) (c .before .before .before .before .before .before .before .before .before .before .args .below) _ (c .before .before .before .before .before .before .before .before .before .before .args .place) (ap setFound (c .enum-told8 .given .1))
+write-members-returns-11 t c = let a = c .before .before .before .before .before .before .before .before .before .before .args in members-other (a .sorts .now) (a .members .now) (a .names .now) (a .nodes .now) (a .text .now) (a .at) (c .before .before .shape-at .result) (c .before .before .shape-at .ensures) (a .below) _ (a .place) (ap setFound (c .enum-told8 .given .1))
 
--- src/value.rt:88:1
 write-members-returns-12 : (t : ℕ) → write-members-lts.Need-returns-12 (
   shape-at-reads.Asked,
   shape-at-reads.Learnt,
@@ -1947,9 +1829,8 @@ write-members-returns-12 : (t : ℕ) → write-members-lts.Need-returns-12 (
   write-members-below t,
   write-members.Post,
 ) (write-members-at t) write-members.Post
-write-members-returns-12 t c = members-other (c .before .before .before .before .before .before .before .before .before .before .args .sorts .now) (c .before .before .before .before .before .before .before .before .before .before .args .members .now) (c .before .before .before .before .before .before .before .before .before .before .args .names .now) (c .before .before .before .before .before .before .before .before .before .before .args .nodes .now) (c .before .before .before .before .before .before .before .before .before .before .args .text .now) (c .before .before .before .before .before .before .before .before .before .before .args .at) (c .before .before .shape-at .result) (c .before .before .shape-at .ensures) (c .before .before .before .before .before .before .before .before .before .before .args .below) _ (c .before .before .before .before .before .before .before .before .before .before .args .place) (ap setFound (c .enum-told9 .given .1))
+write-members-returns-12 t c = let a = c .before .before .before .before .before .before .before .before .before .before .args in members-other (a .sorts .now) (a .members .now) (a .names .now) (a .nodes .now) (a .text .now) (a .at) (c .before .before .shape-at .result) (c .before .before .shape-at .ensures) (a .below) _ (a .place) (ap setFound (c .enum-told9 .given .1))
 
--- src/value.rt:272:19
 write-record-slice-aggregate-put : (t : ℕ) → write-record-lts.Need-slice-aggregate-put (
   put-reads.Asked,
   put-reads.Learnt,
@@ -1960,7 +1841,6 @@ write-record-slice-aggregate-put : (t : ℕ) → write-record-lts.Need-slice-agg
 ) (write-record-at t) write-record.Post
 write-record-slice-aggregate-put t c = search needs
 
--- src/value.rt:272:9
 write-record-put-requires : (t : ℕ) → write-record-lts.Need-put-requires (
   put-reads.Asked,
   put-reads.Learnt,
@@ -1971,7 +1851,6 @@ write-record-put-requires : (t : ℕ) → write-record-lts.Need-put-requires (
 ) (write-record-at t) write-record.Post
 write-record-put-requires t c κs = search needs
 
--- src/value.rt:273:9
 write-record-write-number-requires : (t : ℕ) → write-record-lts.Need-write-number-requires (
   put-reads.Asked,
   put-reads.Learnt,
@@ -1982,7 +1861,6 @@ write-record-write-number-requires : (t : ℕ) → write-record-lts.Need-write-n
 ) (write-record-at t) write-record.Post
 write-record-write-number-requires t c κs = search needs
 
--- src/value.rt:274:21
 write-record-slice-aggregate-put-2 : (t : ℕ) → write-record-lts.Need-slice-aggregate-put-2 (
   put-reads.Asked,
   put-reads.Learnt,
@@ -1993,7 +1871,6 @@ write-record-slice-aggregate-put-2 : (t : ℕ) → write-record-lts.Need-slice-a
 ) (write-record-at t) write-record.Post
 write-record-slice-aggregate-put-2 t c = search needs
 
--- src/value.rt:274:9
 write-record-put-requires-2 : (t : ℕ) → write-record-lts.Need-put-requires-2 (
   put-reads.Asked,
   put-reads.Learnt,
@@ -2004,7 +1881,6 @@ write-record-put-requires-2 : (t : ℕ) → write-record-lts.Need-put-requires-2
 ) (write-record-at t) write-record.Post
 write-record-put-requires-2 t c κs = search needs
 
--- src/value.rt:275:9
 write-record-write-fields-requires : (t : ℕ) → write-record-lts.Need-write-fields-requires (
   put-reads.Asked,
   put-reads.Learnt,
@@ -2015,7 +1891,6 @@ write-record-write-fields-requires : (t : ℕ) → write-record-lts.Need-write-f
 ) (write-record-at t) write-record.Post
 write-record-write-fields-requires t c κs = search needs
 
--- src/value.rt:288:9
 write-record-slice-aggregate-put-3 : (t : ℕ) → write-record-lts.Need-slice-aggregate-put-3 (
   put-reads.Asked,
   put-reads.Learnt,
@@ -2026,7 +1901,6 @@ write-record-slice-aggregate-put-3 : (t : ℕ) → write-record-lts.Need-slice-a
 ) (write-record-at t) write-record.Post
 write-record-slice-aggregate-put-3 t c = search needs
 
--- src/value.rt:288:5
 write-record-put-requires-3 : (t : ℕ) → write-record-lts.Need-put-requires-3 (
   put-reads.Asked,
   put-reads.Learnt,
@@ -2037,7 +1911,6 @@ write-record-put-requires-3 : (t : ℕ) → write-record-lts.Need-put-requires-3
 ) (write-record-at t) write-record.Post
 write-record-put-requires-3 t c κs = search needs
 
--- src/value.rt:257:1
 write-record-same-length : (t : ℕ) → write-record-lts.Need-same-length (
   put-reads.Asked,
   put-reads.Learnt,
@@ -2048,7 +1921,6 @@ write-record-same-length : (t : ℕ) → write-record-lts.Need-same-length (
 ) (write-record-at t) write-record.Post
 write-record-same-length t c = search needs
 
--- src/value.rt:257:1
 write-record-same-length-2 : (t : ℕ) → write-record-lts.Need-same-length-2 (
   put-reads.Asked,
   put-reads.Learnt,
@@ -2059,7 +1931,6 @@ write-record-same-length-2 : (t : ℕ) → write-record-lts.Need-same-length-2 (
 ) (write-record-at t) write-record.Post
 write-record-same-length-2 t c = search needs
 
--- src/value.rt:257:1
 write-record-returns : (t : ℕ) → write-record-lts.Need-returns (
   put-reads.Asked,
   put-reads.Learnt,
@@ -2068,9 +1939,8 @@ write-record-returns : (t : ℕ) → write-record-lts.Need-returns (
   write-fields-below t,
   write-fields.Post,
 ) (write-record-at t) write-record.Post
-write-record-returns t c = record-text (c .before .before .before .before .before .before .before .before .before .before .before .before .before .before .before .before .before .before .before .before .before .before .before .before .before .before .before .before .before .before .before .before .before .args .sorts .now) (c .before .before .before .before .before .before .before .before .before .before .before .before .before .before .before .before .before .before .before .before .before .before .before .before .before .before .before .before .before .before .before .before .before .args .members .now) (c .before .before .before .before .before .before .before .before .before .before .before .before .before .before .before .before .before .before .before .before .before .before .before .before .before .before .before .before .before .before .before .before .before .args .names .now) (c .before .before .before .before .before .before .before .before .before .before .before .before .before .before .before .before .before .before .before .before .before .before .before .before .before .before .before .before .before .before .before .before .before .args .nodes .now) (c .before .before .before .before .before .before .before .before .before .before .before .before .before .before .before .before .before .before .before .before .before .before .before .before .before .before .before .before .before .before .before .before .before .args .text .now) (c .before .before .before .before .before .before .before .before .before .before .before .before .before .before .before .before .before .before .before .before .before .before .before .before .before .before .before .before .before .before .before .before .before .args .row) (c .before .before .before .before .before .before .before .before .before .before .before .before .before .before .before .before .before .before .before .before .before .before .before .before .before .before .before .before .before .before .before .before .before .args .first) (c .before .before .before .before .before .before .before .before .before .before .before .before .before .before .before .before .before .before .before .before .before .before .before .before .before .before .before .before .before .before .before .before .before .args .count) (c .before .before .before .before .before .before .before .before .before .before .before .before .before .before .before .before .before .before .before .before .before .before .before .before .before .before .before .before .before .before .before .before .before .args .allow) _ _ _ _ _ _ _ _ _ _ _ (c .before .before .before .before .before .before .before .before .before .before .before .before .before .before .before .before .before .before .before .before .before .before .before .put .ensures) (c .before .before .before .before .before .before .before .before .before .before .before .before .before .before .before .before .before .before .before .write-number .ensures) (c .before .before .before .before .before .before .before .before .before .before .before .before .before .before .put2 .ensures) (c .before .before .before .before .before .before .before .before .before .write-fields .ensures) (c .before .before .put3 .ensures)
+write-record-returns t c = let a = c .before .before .before .before .before .before .before .before .before .before .before .before .before .before .before .before .before .before .before .before .before .before .before .before .before .before .before .before .before .before .before .before .before .args in record-text (a .sorts .now) (a .members .now) (a .names .now) (a .nodes .now) (a .text .now) (a .row) (a .first) (a .count) (a .allow) _ _ _ _ _ _ _ _ _ _ _ (c .before .before .before .before .before .before .before .before .before .before .before .before .before .before .before .before .before .before .before .before .before .before .before .put .ensures) (c .before .before .before .before .before .before .before .before .before .before .before .before .before .before .before .before .before .before .before .write-number .ensures) (c .before .before .before .before .before .before .before .before .before .before .before .before .before .before .put2 .ensures) (c .before .before .before .before .before .before .before .before .before .write-fields .ensures) (c .before .before .put3 .ensures)
 
--- src/value.rt:184:19
 write-set-slice-aggregate-put : (t : ℕ) → write-set-lts.Need-slice-aggregate-put (
   put-reads.Asked,
   put-reads.Learnt,
@@ -2083,7 +1953,6 @@ write-set-slice-aggregate-put : (t : ℕ) → write-set-lts.Need-slice-aggregate
 ) (write-set-at t) write-set.Post
 write-set-slice-aggregate-put t c = search needs
 
--- src/value.rt:184:9
 write-set-put-requires : (t : ℕ) → write-set-lts.Need-put-requires (
   put-reads.Asked,
   put-reads.Learnt,
@@ -2096,7 +1965,6 @@ write-set-put-requires : (t : ℕ) → write-set-lts.Need-put-requires (
 ) (write-set-at t) write-set.Post
 write-set-put-requires t c κs = search needs
 
--- src/value.rt:185:9
 write-set-write-members-requires : (t : ℕ) → write-set-lts.Need-write-members-requires (
   put-reads.Asked,
   put-reads.Learnt,
@@ -2109,7 +1977,6 @@ write-set-write-members-requires : (t : ℕ) → write-set-lts.Need-write-member
 ) (write-set-at t) write-set.Post
 write-set-write-members-requires t c κs = search needs
 
--- src/value.rt:198:20
 write-set-slice-aggregate-put-2 : (t : ℕ) → write-set-lts.Need-slice-aggregate-put-2 (
   put-reads.Asked,
   put-reads.Learnt,
@@ -2122,7 +1989,6 @@ write-set-slice-aggregate-put-2 : (t : ℕ) → write-set-lts.Need-slice-aggrega
 ) (write-set-at t) write-set.Post
 write-set-slice-aggregate-put-2 t c = search needs
 
--- src/value.rt:198:9
 write-set-put-requires-2 : (t : ℕ) → write-set-lts.Need-put-requires-2 (
   put-reads.Asked,
   put-reads.Learnt,
@@ -2135,7 +2001,6 @@ write-set-put-requires-2 : (t : ℕ) → write-set-lts.Need-put-requires-2 (
 ) (write-set-at t) write-set.Post
 write-set-put-requires-2 t c κs = search needs
 
--- src/value.rt:198:9
 write-set-same-length : (t : ℕ) → write-set-lts.Need-same-length (
   put-reads.Asked,
   put-reads.Learnt,
@@ -2148,7 +2013,6 @@ write-set-same-length : (t : ℕ) → write-set-lts.Need-same-length (
 ) (write-set-at t) write-set.Post
 write-set-same-length t c = search needs
 
--- src/value.rt:198:9
 write-set-same-length-2 : (t : ℕ) → write-set-lts.Need-same-length-2 (
   put-reads.Asked,
   put-reads.Learnt,
@@ -2161,7 +2025,6 @@ write-set-same-length-2 : (t : ℕ) → write-set-lts.Need-same-length-2 (
 ) (write-set-at t) write-set.Post
 write-set-same-length-2 t c = search needs
 
--- src/value.rt:198:9
 write-set-returns : (t : ℕ) → write-set-lts.Need-returns (
   put-reads.Asked,
   put-reads.Learnt,
@@ -2172,9 +2035,8 @@ write-set-returns : (t : ℕ) → write-set-lts.Need-returns (
   plus-reads.Asked,
   plus-reads.Learnt,
 ) (write-set-at t) write-set.Post
-write-set-returns t c = set-none (c .before .before .before .before .before .before .before .before .before .before .before .before .before .before .before .before .before .before .before .before .before .before .before .before .before .args .sorts .now) (c .before .before .before .before .before .before .before .before .before .before .before .before .before .before .before .before .before .before .before .before .before .before .before .before .before .args .members .now) (c .before .before .before .before .before .before .before .before .before .before .before .before .before .before .before .before .before .before .before .before .before .before .before .before .before .args .names .now) (c .before .before .before .before .before .before .before .before .before .before .before .before .before .before .before .before .before .before .before .before .before .before .before .before .before .args .nodes .now) (c .before .before .before .before .before .before .before .before .before .before .before .before .before .before .before .before .before .before .before .before .before .before .before .before .before .args .text .now) (c .before .before .before .before .before .before .before .before .before .before .before .before .before .before .before .before .before .before .before .before .before .before .before .before .before .args .at) (c .before .before .before .before .before .before .before .before .before .before .before .before .before .before .before .before .before .before .before .before .before .before .before .before .before .args .below) _ _ _ _ _ (c .before .before .before .before .before .before .before .before .before .before .before .before .before .before .before .put .ensures) (c .before .before .before .before .before .before .before .before .before .before .write-members .ensures) (c .before .before .before .before .before .if1 .taken) _ _ (c .before .before .put2 .ensures)
+write-set-returns t c = let a = c .before .before .before .before .before .before .before .before .before .before .before .before .before .before .before .before .before .before .before .before .before .before .before .before .before .args in set-none (a .sorts .now) (a .members .now) (a .names .now) (a .nodes .now) (a .text .now) (a .at) (a .below) _ _ _ _ _ (c .before .before .before .before .before .before .before .before .before .before .before .before .before .before .before .put .ensures) (c .before .before .before .before .before .before .before .before .before .before .write-members .ensures) (c .before .before .before .before .before .if1 .taken) _ _ (c .before .before .put2 .ensures)
 
--- src/value.rt:201:9
 write-set-same-length-3 : (t : ℕ) → write-set-lts.Need-same-length-3 (
   put-reads.Asked,
   put-reads.Learnt,
@@ -2187,7 +2049,6 @@ write-set-same-length-3 : (t : ℕ) → write-set-lts.Need-same-length-3 (
 ) (write-set-at t) write-set.Post
 write-set-same-length-3 t c = search needs
 
--- src/value.rt:201:9
 write-set-same-length-4 : (t : ℕ) → write-set-lts.Need-same-length-4 (
   put-reads.Asked,
   put-reads.Learnt,
@@ -2200,7 +2061,6 @@ write-set-same-length-4 : (t : ℕ) → write-set-lts.Need-same-length-4 (
 ) (write-set-at t) write-set.Post
 write-set-same-length-4 t c = search needs
 
--- src/value.rt:201:9
 write-set-returns-2 : (t : ℕ) → write-set-lts.Need-returns-2 (
   put-reads.Asked,
   put-reads.Learnt,
@@ -2211,9 +2071,8 @@ write-set-returns-2 : (t : ℕ) → write-set-lts.Need-returns-2 (
   plus-reads.Asked,
   plus-reads.Learnt,
 ) (write-set-at t) write-set.Post
-write-set-returns-2 t c = set-short (c .before .before .before .before .before .before .before .before .before .before .before .before .before .before .before .before .before .before .before .before .before .args .sorts .now) (c .before .before .before .before .before .before .before .before .before .before .before .before .before .before .before .before .before .before .before .before .before .args .members .now) (c .before .before .before .before .before .before .before .before .before .before .before .before .before .before .before .before .before .before .before .before .before .args .names .now) (c .before .before .before .before .before .before .before .before .before .before .before .before .before .before .before .before .before .before .before .before .before .args .nodes .now) (c .before .before .before .before .before .before .before .before .before .before .before .before .before .before .before .before .before .before .before .before .before .args .text .now) (c .before .before .before .before .before .before .before .before .before .before .before .before .before .before .before .before .before .before .before .before .before .args .at) (c .before .before .before .before .before .before .before .before .before .before .before .before .before .before .before .before .before .before .before .before .before .args .below) _ _ _ _ _ (c .before .before .before .before .before .before .before .before .before .before .before .put .ensures) (c .before .before .before .before .before .before .write-members .ensures) (c .if2 .taken) _ _
+write-set-returns-2 t c = let a = c .before .before .before .before .before .before .before .before .before .before .before .before .before .before .before .before .before .before .before .before .before .args in set-short (a .sorts .now) (a .members .now) (a .names .now) (a .nodes .now) (a .text .now) (a .at) (a .below) _ _ _ _ _ (c .before .before .before .before .before .before .before .before .before .before .before .put .ensures) (c .before .before .before .before .before .before .write-members .ensures) (c .if2 .taken) _ _
 
--- src/value.rt:203:23
 write-set-sub-close : (t : ℕ) → write-set-lts.Need-sub-close (
   put-reads.Asked,
   put-reads.Learnt,
@@ -2226,7 +2085,6 @@ write-set-sub-close : (t : ℕ) → write-set-lts.Need-sub-close (
 ) (write-set-at t) write-set.Post
 write-set-sub-close t c = search needs
 
--- src/value.rt:203:23
 write-set-part-close-start : (t : ℕ) → write-set-lts.Need-part-close-start (
   put-reads.Asked,
   put-reads.Learnt,
@@ -2239,7 +2097,6 @@ write-set-part-close-start : (t : ℕ) → write-set-lts.Need-part-close-start (
 ) (write-set-at t) write-set.Post
 write-set-part-close-start t c = search needs
 
--- src/value.rt:203:23
 write-set-part-close-end : (t : ℕ) → write-set-lts.Need-part-close-end (
   put-reads.Asked,
   put-reads.Learnt,
@@ -2252,7 +2109,6 @@ write-set-part-close-end : (t : ℕ) → write-set-lts.Need-part-close-end (
 ) (write-set-at t) write-set.Post
 write-set-part-close-end t c = search needs
 
--- src/value.rt:203:9
 write-set-close-requires : (t : ℕ) → write-set-lts.Need-close-requires (
   put-reads.Asked,
   put-reads.Learnt,
@@ -2265,7 +2121,6 @@ write-set-close-requires : (t : ℕ) → write-set-lts.Need-close-requires (
 ) (write-set-at t) write-set.Post
 write-set-close-requires t c κs = search needs
 
--- src/value.rt:204:5
 write-set-plus-requires : (t : ℕ) → write-set-lts.Need-plus-requires (
   put-reads.Asked,
   put-reads.Learnt,
@@ -2278,7 +2133,6 @@ write-set-plus-requires : (t : ℕ) → write-set-lts.Need-plus-requires (
 ) (write-set-at t) write-set.Post
 write-set-plus-requires t c κs = search needs
 
--- src/value.rt:171:1
 write-set-same-length-5 : (t : ℕ) → write-set-lts.Need-same-length-5 (
   put-reads.Asked,
   put-reads.Learnt,
@@ -2291,7 +2145,6 @@ write-set-same-length-5 : (t : ℕ) → write-set-lts.Need-same-length-5 (
 ) (write-set-at t) write-set.Post
 write-set-same-length-5 t c = search needs
 
--- src/value.rt:171:1
 write-set-same-length-6 : (t : ℕ) → write-set-lts.Need-same-length-6 (
   put-reads.Asked,
   put-reads.Learnt,
@@ -2304,7 +2157,6 @@ write-set-same-length-6 : (t : ℕ) → write-set-lts.Need-same-length-6 (
 ) (write-set-at t) write-set.Post
 write-set-same-length-6 t c = search needs
 
--- src/value.rt:171:1
 write-set-returns-3 : (t : ℕ) → write-set-lts.Need-returns-3 (
   put-reads.Asked,
   put-reads.Learnt,
@@ -2315,9 +2167,8 @@ write-set-returns-3 : (t : ℕ) → write-set-lts.Need-returns-3 (
   plus-reads.Asked,
   plus-reads.Learnt,
 ) (write-set-at t) write-set.Post
-write-set-returns-3 t c = set-closed (c .before .before .before .before .before .before .before .before .before .before .before .before .before .before .before .before .before .before .before .before .before .before .before .before .before .before .before .before .before .args .sorts .now) (c .before .before .before .before .before .before .before .before .before .before .before .before .before .before .before .before .before .before .before .before .before .before .before .before .before .before .before .before .before .args .members .now) (c .before .before .before .before .before .before .before .before .before .before .before .before .before .before .before .before .before .before .before .before .before .before .before .before .before .before .before .before .before .args .names .now) (c .before .before .before .before .before .before .before .before .before .before .before .before .before .before .before .before .before .before .before .before .before .before .before .before .before .before .before .before .before .args .nodes .now) (c .before .before .before .before .before .before .before .before .before .before .before .before .before .before .before .before .before .before .before .before .before .before .before .before .before .before .before .before .before .args .text .now) (c .before .before .before .before .before .before .before .before .before .before .before .before .before .before .before .before .before .before .before .before .before .before .before .before .before .before .before .before .before .args .at) (c .before .before .before .before .before .before .before .before .before .before .before .before .before .before .before .before .before .before .before .before .before .before .before .before .before .before .before .before .before .args .below) _ _ _ _ _ (c .before .before .before .before .before .before .before .before .before .before .before .before .before .before .before .before .before .before .before .put .ensures) (c .before .before .before .before .before .before .before .before .before .before .before .before .before .before .write-members .ensures) (c .before .before .before .before .before .before .before .before .before .if1 .left) (c .before .before .before .before .before .before .before .before .if2 .left) (c .before .before .before .before .before .before .before .before .before .before .before .before .before .before .before .before .before .before .before .before .before .before .before .before .before .before .before .before .before .good .1 .1 .1 .1 .1 .1 .1 .1 .0 .0) _ _ _ (c .before .before .before .before .before .close .kept .0) (c .before .before .before .before .before .close .ensures) (c .plus .ensures)
+write-set-returns-3 t c = let a = c .before .before .before .before .before .before .before .before .before .before .before .before .before .before .before .before .before .before .before .before .before .before .before .before .before .before .before .before .before .args in set-closed (a .sorts .now) (a .members .now) (a .names .now) (a .nodes .now) (a .text .now) (a .at) (a .below) _ _ _ _ _ (c .before .before .before .before .before .before .before .before .before .before .before .before .before .before .before .before .before .before .before .put .ensures) (c .before .before .before .before .before .before .before .before .before .before .before .before .before .before .write-members .ensures) (c .before .before .before .before .before .before .before .before .before .if1 .left) (c .before .before .before .before .before .before .before .before .if2 .left) (c .before .before .before .before .before .before .before .before .before .before .before .before .before .before .before .before .before .before .before .before .before .before .before .before .before .before .before .before .before .good .1 .1 .1 .1 .1 .1 .1 .1 .0 .0) _ _ _ (c .before .before .before .before .before .close .kept .0) (c .before .before .before .before .before .close .ensures) (c .plus .ensures)
 
--- src/value.rt:71:19
 write-some-slice-aggregate-put : (t : ℕ) → write-some-lts.Need-slice-aggregate-put (
   put-reads.Asked,
   put-reads.Learnt,
@@ -2326,7 +2177,6 @@ write-some-slice-aggregate-put : (t : ℕ) → write-some-lts.Need-slice-aggrega
 ) (write-some-at t) write-some.Post
 write-some-slice-aggregate-put t c = search needs
 
--- src/value.rt:71:9
 write-some-put-requires : (t : ℕ) → write-some-lts.Need-put-requires (
   put-reads.Asked,
   put-reads.Learnt,
@@ -2335,7 +2185,6 @@ write-some-put-requires : (t : ℕ) → write-some-lts.Need-put-requires (
 ) (write-some-at t) write-some.Post
 write-some-put-requires t c κs = search needs
 
--- src/value.rt:72:9
 write-some-write-inside-requires : (t : ℕ) → write-some-lts.Need-write-inside-requires (
   put-reads.Asked,
   put-reads.Learnt,
@@ -2344,7 +2193,6 @@ write-some-write-inside-requires : (t : ℕ) → write-some-lts.Need-write-insid
 ) (write-some-at t) write-some.Post
 write-some-write-inside-requires t c κs = search needs
 
--- src/value.rt:84:9
 write-some-slice-aggregate-put-2 : (t : ℕ) → write-some-lts.Need-slice-aggregate-put-2 (
   put-reads.Asked,
   put-reads.Learnt,
@@ -2353,7 +2201,6 @@ write-some-slice-aggregate-put-2 : (t : ℕ) → write-some-lts.Need-slice-aggre
 ) (write-some-at t) write-some.Post
 write-some-slice-aggregate-put-2 t c = search needs
 
--- src/value.rt:84:5
 write-some-put-requires-2 : (t : ℕ) → write-some-lts.Need-put-requires-2 (
   put-reads.Asked,
   put-reads.Learnt,
@@ -2362,7 +2209,6 @@ write-some-put-requires-2 : (t : ℕ) → write-some-lts.Need-put-requires-2 (
 ) (write-some-at t) write-some.Post
 write-some-put-requires-2 t c κs = search needs
 
--- src/value.rt:58:1
 write-some-same-length : (t : ℕ) → write-some-lts.Need-same-length (
   put-reads.Asked,
   put-reads.Learnt,
@@ -2371,7 +2217,6 @@ write-some-same-length : (t : ℕ) → write-some-lts.Need-same-length (
 ) (write-some-at t) write-some.Post
 write-some-same-length t c = search needs
 
--- src/value.rt:58:1
 write-some-same-length-2 : (t : ℕ) → write-some-lts.Need-same-length-2 (
   put-reads.Asked,
   put-reads.Learnt,
@@ -2380,16 +2225,14 @@ write-some-same-length-2 : (t : ℕ) → write-some-lts.Need-same-length-2 (
 ) (write-some-at t) write-some.Post
 write-some-same-length-2 t c = search needs
 
--- src/value.rt:58:1
 write-some-returns : (t : ℕ) → write-some-lts.Need-returns (
   put-reads.Asked,
   put-reads.Learnt,
   write-inside-below t,
   write-inside.Post,
 ) (write-some-at t) write-some.Post
-write-some-returns t c = some-text (c .before .before .before .before .before .before .before .before .before .before .before .before .before .before .before .before .before .before .before .before .before .before .before .before .args .sorts .now) (c .before .before .before .before .before .before .before .before .before .before .before .before .before .before .before .before .before .before .before .before .before .before .before .before .args .members .now) (c .before .before .before .before .before .before .before .before .before .before .before .before .before .before .before .before .before .before .before .before .before .before .before .before .args .names .now) (c .before .before .before .before .before .before .before .before .before .before .before .before .before .before .before .before .before .before .before .before .before .before .before .before .args .nodes .now) (c .before .before .before .before .before .before .before .before .before .before .before .before .before .before .before .before .before .before .before .before .before .before .before .before .args .text .now) (c .before .before .before .before .before .before .before .before .before .before .before .before .before .before .before .before .before .before .before .before .before .before .before .before .args .at) (c .before .before .before .before .before .before .before .before .before .before .before .before .before .before .before .before .before .before .before .before .before .before .before .before .args .allow) _ _ _ _ _ _ _ (c .before .before .before .before .before .before .before .before .before .before .before .before .before .before .put .ensures) (c .before .before .before .before .before .before .before .before .before .write-inside .ensures) (c .before .before .put2 .ensures)
+write-some-returns t c = let a = c .before .before .before .before .before .before .before .before .before .before .before .before .before .before .before .before .before .before .before .before .before .before .before .before .args in some-text (a .sorts .now) (a .members .now) (a .names .now) (a .nodes .now) (a .text .now) (a .at) (a .allow) _ _ _ _ _ _ _ (c .before .before .before .before .before .before .before .before .before .before .before .before .before .before .put .ensures) (c .before .before .before .before .before .before .before .before .before .write-inside .ensures) (c .before .before .put2 .ensures)
 
--- src/value.rt:449:9
 write-value-returns : (t : ℕ) → write-value-lts.Need-returns (
   node-at-reads.Asked,
   node-at-reads.Learnt,
@@ -2402,9 +2245,8 @@ write-value-returns : (t : ℕ) → write-value-lts.Need-returns (
   write-app-below t,
   write-app.Post,
 ) (write-value-at t) write-value.Post
-write-value-returns t c = value-nested (c .before .before .before .before .before .before .before .before .args .sorts .now) (c .before .before .before .before .before .before .before .before .args .members .now) (c .before .before .before .before .before .before .before .before .args .names .now) (c .before .before .before .before .before .before .before .before .args .nodes .now) (c .before .before .before .before .before .before .before .before .args .text .now) (c .before .before .before .before .before .before .before .before .args .at) (c .before .before .before .before .before .before .before .before .args .allow) _ _ _ (c .if1 .taken)
+write-value-returns t c = let a = c .before .before .before .before .before .before .before .before .args in value-nested (a .sorts .now) (a .members .now) (a .names .now) (a .nodes .now) (a .text .now) (a .at) (a .allow) _ _ _ (c .if1 .taken)
 
--- src/value.rt:451:9
 write-value-node-at-requires : (t : ℕ) → write-value-lts.Need-node-at-requires (
   node-at-reads.Asked,
   node-at-reads.Learnt,
@@ -2419,7 +2261,6 @@ write-value-node-at-requires : (t : ℕ) → write-value-lts.Need-node-at-requir
 ) (write-value-at t) write-value.Post
 write-value-node-at-requires t c κs = search needs
 
--- src/value.rt:453:24
 write-value-enum-known-node : (t : ℕ) → write-value-lts.Need-enum-known-node (
   node-at-reads.Asked,
   node-at-reads.Learnt,
@@ -2434,7 +2275,6 @@ write-value-enum-known-node : (t : ℕ) → write-value-lts.Need-enum-known-node
 ) (write-value-at t) write-value.Post
 write-value-enum-known-node t c = search needs
 
--- src/value.rt:453:46
 write-value-write-bits-requires : (t : ℕ) → write-value-lts.Need-write-bits-requires (
   node-at-reads.Asked,
   node-at-reads.Learnt,
@@ -2449,7 +2289,6 @@ write-value-write-bits-requires : (t : ℕ) → write-value-lts.Need-write-bits-
 ) (write-value-at t) write-value.Post
 write-value-write-bits-requires t c κs = search needs
 
--- src/value.rt:454:46
 write-value-enum-told : (t : ℕ) → write-value-lts.Need-enum-told (
   node-at-reads.Asked,
   node-at-reads.Learnt,
@@ -2464,7 +2303,6 @@ write-value-enum-told : (t : ℕ) → write-value-lts.Need-enum-told (
 ) (write-value-at t) write-value.Post
 write-value-enum-told t c = search needs
 
--- src/value.rt:455:24
 write-value-enum-known-node-2 : (t : ℕ) → write-value-lts.Need-enum-known-node-2 (
   node-at-reads.Asked,
   node-at-reads.Learnt,
@@ -2479,7 +2317,6 @@ write-value-enum-known-node-2 : (t : ℕ) → write-value-lts.Need-enum-known-no
 ) (write-value-at t) write-value.Post
 write-value-enum-known-node-2 t c = search needs
 
--- src/value.rt:455:44
 write-value-write-string-requires : (t : ℕ) → write-value-lts.Need-write-string-requires (
   node-at-reads.Asked,
   node-at-reads.Learnt,
@@ -2494,7 +2331,6 @@ write-value-write-string-requires : (t : ℕ) → write-value-lts.Need-write-str
 ) (write-value-at t) write-value.Post
 write-value-write-string-requires t c κs = search needs
 
--- src/value.rt:456:24
 write-value-enum-known-node-3 : (t : ℕ) → write-value-lts.Need-enum-known-node-3 (
   node-at-reads.Asked,
   node-at-reads.Learnt,
@@ -2509,7 +2345,6 @@ write-value-enum-known-node-3 : (t : ℕ) → write-value-lts.Need-enum-known-no
 ) (write-value-at t) write-value.Post
 write-value-enum-known-node-3 t c = search needs
 
--- src/value.rt:456:44
 write-value-write-word-requires : (t : ℕ) → write-value-lts.Need-write-word-requires (
   node-at-reads.Asked,
   node-at-reads.Learnt,
@@ -2524,7 +2359,6 @@ write-value-write-word-requires : (t : ℕ) → write-value-lts.Need-write-word-
 ) (write-value-at t) write-value.Post
 write-value-write-word-requires t c κs = search needs
 
--- src/value.rt:467:13
 write-value-enum-told-2 : (t : ℕ) → write-value-lts.Need-enum-told-2 (
   node-at-reads.Asked,
   node-at-reads.Learnt,
@@ -2539,7 +2373,6 @@ write-value-enum-told-2 : (t : ℕ) → write-value-lts.Need-enum-told-2 (
 ) (write-value-at t) write-value.Post
 write-value-enum-told-2 t c = search needs
 
--- src/value.rt:467:13
 write-value-sub-write-app : (t : ℕ) → write-value-lts.Need-sub-write-app (
   node-at-reads.Asked,
   node-at-reads.Learnt,
@@ -2554,7 +2387,6 @@ write-value-sub-write-app : (t : ℕ) → write-value-lts.Need-sub-write-app (
 ) (write-value-at t) write-value.Post
 write-value-sub-write-app t c = search needs
 
--- src/value.rt:460:14
 write-value-write-app-requires : (t : ℕ) → write-value-lts.Need-write-app-requires (
   node-at-reads.Asked,
   node-at-reads.Learnt,
@@ -2569,7 +2401,6 @@ write-value-write-app-requires : (t : ℕ) → write-value-lts.Need-write-app-re
 ) (write-value-at t) write-value.Post
 write-value-write-app-requires t c κs = search needs
 
--- src/value.rt:471:25
 write-value-enum-told-3 : (t : ℕ) → write-value-lts.Need-enum-told-3 (
   node-at-reads.Asked,
   node-at-reads.Learnt,
@@ -2584,7 +2415,6 @@ write-value-enum-told-3 : (t : ℕ) → write-value-lts.Need-enum-told-3 (
 ) (write-value-at t) write-value.Post
 write-value-enum-told-3 t c = search needs
 
--- src/value.rt:435:1
 write-value-same-length : (t : ℕ) → write-value-lts.Need-same-length (
   node-at-reads.Asked,
   node-at-reads.Learnt,
@@ -2599,7 +2429,6 @@ write-value-same-length : (t : ℕ) → write-value-lts.Need-same-length (
 ) (write-value-at t) write-value.Post
 write-value-same-length t c = search needs
 
--- src/value.rt:435:1
 write-value-returns-2 : (t : ℕ) → write-value-lts.Need-returns-2 (
   node-at-reads.Asked,
   node-at-reads.Learnt,
@@ -2612,9 +2441,8 @@ write-value-returns-2 : (t : ℕ) → write-value-lts.Need-returns-2 (
   write-app-below t,
   write-app.Post,
 ) (write-value-at t) write-value.Post
-write-value-returns-2 t c = value-bits (c .before .before .before .before .before .before .before .before .before .before .before .before .before .before .before .before .args .sorts .now) (c .before .before .before .before .before .before .before .before .before .before .before .before .before .before .before .before .args .members .now) (c .before .before .before .before .before .before .before .before .before .before .before .before .before .before .before .before .args .names .now) (c .before .before .before .before .before .before .before .before .before .before .before .before .before .before .before .before .args .nodes .now) (c .before .before .before .before .before .before .before .before .before .before .before .before .before .before .before .before .args .text .now) (c .before .before .before .before .before .before .before .before .before .before .before .before .before .before .before .before .args .at) (c .before .before .before .before .before .before .before .before .before .before .before .before .before .before .before .before .args .allow) _ _ _ (c .before .before .before .before .before .before .before .before .if1 .left) (c .before .before .before .before .before .before .before .node-at .result) (c .before .before .before .before .before .before .before .node-at .ensures) _ _ _ (c .before .before .before .before .before .node .given .1) (c .before .before .write-bits .ensures)
+write-value-returns-2 t c = let a = c .before .before .before .before .before .before .before .before .before .before .before .before .before .before .before .before .args in value-bits (a .sorts .now) (a .members .now) (a .names .now) (a .nodes .now) (a .text .now) (a .at) (a .allow) _ _ _ (c .before .before .before .before .before .before .before .before .if1 .left) (c .before .before .before .before .before .before .before .node-at .result) (c .before .before .before .before .before .before .before .node-at .ensures) _ _ _ (c .before .before .before .before .before .node .given .1) (c .before .before .write-bits .ensures)
 
--- src/value.rt:435:1
 write-value-returns-3 : (t : ℕ) → write-value-lts.Need-returns-3 (
   node-at-reads.Asked,
   node-at-reads.Learnt,
@@ -2627,9 +2455,8 @@ write-value-returns-3 : (t : ℕ) → write-value-lts.Need-returns-3 (
   write-app-below t,
   write-app.Post,
 ) (write-value-at t) write-value.Post
-write-value-returns-3 t c = value-numeral (c .before .before .before .before .before .before .before .before .before .before .before .args .sorts .now) (c .before .before .before .before .before .before .before .before .before .before .before .args .members .now) (c .before .before .before .before .before .before .before .before .before .before .before .args .names .now) (c .before .before .before .before .before .before .before .before .before .before .before .args .nodes .now) (c .before .before .before .before .before .before .before .before .before .before .before .args .text .now) (c .before .before .before .before .before .before .before .before .before .before .before .args .at) (c .before .before .before .before .before .before .before .before .before .before .before .args .allow) _ _ _ (c .before .before .before .if1 .left) (c .before .before .node-at .result) (c .before .before .node-at .ensures) _ _ (c .enum-told .given .1)
+write-value-returns-3 t c = let a = c .before .before .before .before .before .before .before .before .before .before .before .args in value-numeral (a .sorts .now) (a .members .now) (a .names .now) (a .nodes .now) (a .text .now) (a .at) (a .allow) _ _ _ (c .before .before .before .if1 .left) (c .before .before .node-at .result) (c .before .before .node-at .ensures) _ _ (c .enum-told .given .1)
 
--- src/value.rt:435:1
 write-value-same-length-2 : (t : ℕ) → write-value-lts.Need-same-length-2 (
   node-at-reads.Asked,
   node-at-reads.Learnt,
@@ -2644,7 +2471,6 @@ write-value-same-length-2 : (t : ℕ) → write-value-lts.Need-same-length-2 (
 ) (write-value-at t) write-value.Post
 write-value-same-length-2 t c = search needs
 
--- src/value.rt:435:1
 write-value-returns-4 : (t : ℕ) → write-value-lts.Need-returns-4 (
   node-at-reads.Asked,
   node-at-reads.Learnt,
@@ -2657,9 +2483,8 @@ write-value-returns-4 : (t : ℕ) → write-value-lts.Need-returns-4 (
   write-app-below t,
   write-app.Post,
 ) (write-value-at t) write-value.Post
-write-value-returns-4 t c = value-string (c .before .before .before .before .before .before .before .before .before .before .before .before .before .before .before .before .args .sorts .now) (c .before .before .before .before .before .before .before .before .before .before .before .before .before .before .before .before .args .members .now) (c .before .before .before .before .before .before .before .before .before .before .before .before .before .before .before .before .args .names .now) (c .before .before .before .before .before .before .before .before .before .before .before .before .before .before .before .before .args .nodes .now) (c .before .before .before .before .before .before .before .before .before .before .before .before .before .before .before .before .args .text .now) (c .before .before .before .before .before .before .before .before .before .before .before .before .before .before .before .before .args .at) (c .before .before .before .before .before .before .before .before .before .before .before .before .before .before .before .before .args .allow) _ _ _ (c .before .before .before .before .before .before .before .before .if1 .left) (c .before .before .before .before .before .before .before .node-at .result) (c .before .before .before .before .before .before .before .node-at .ensures) _ _ (c .before .before .before .before .before .node2 .given .1) (c .before .before .write-string .ensures)
+write-value-returns-4 t c = let a = c .before .before .before .before .before .before .before .before .before .before .before .before .before .before .before .before .args in value-string (a .sorts .now) (a .members .now) (a .names .now) (a .nodes .now) (a .text .now) (a .at) (a .allow) _ _ _ (c .before .before .before .before .before .before .before .before .if1 .left) (c .before .before .before .before .before .before .before .node-at .result) (c .before .before .before .before .before .before .before .node-at .ensures) _ _ (c .before .before .before .before .before .node2 .given .1) (c .before .before .write-string .ensures)
 
--- src/value.rt:435:1
 write-value-same-length-3 : (t : ℕ) → write-value-lts.Need-same-length-3 (
   node-at-reads.Asked,
   node-at-reads.Learnt,
@@ -2674,7 +2499,6 @@ write-value-same-length-3 : (t : ℕ) → write-value-lts.Need-same-length-3 (
 ) (write-value-at t) write-value.Post
 write-value-same-length-3 t c = search needs
 
--- src/value.rt:435:1
 write-value-returns-5 : (t : ℕ) → write-value-lts.Need-returns-5 (
   node-at-reads.Asked,
   node-at-reads.Learnt,
@@ -2687,9 +2511,8 @@ write-value-returns-5 : (t : ℕ) → write-value-lts.Need-returns-5 (
   write-app-below t,
   write-app.Post,
 ) (write-value-at t) write-value.Post
-write-value-returns-5 t c = value-word (c .before .before .before .before .before .before .before .before .before .before .before .before .before .before .before .before .args .sorts .now) (c .before .before .before .before .before .before .before .before .before .before .before .before .before .before .before .before .args .members .now) (c .before .before .before .before .before .before .before .before .before .before .before .before .before .before .before .before .args .names .now) (c .before .before .before .before .before .before .before .before .before .before .before .before .before .before .before .before .args .nodes .now) (c .before .before .before .before .before .before .before .before .before .before .before .before .before .before .before .before .args .text .now) (c .before .before .before .before .before .before .before .before .before .before .before .before .before .before .before .before .args .at) (c .before .before .before .before .before .before .before .before .before .before .before .before .before .before .before .before .args .allow) _ _ _ (c .before .before .before .before .before .before .before .before .if1 .left) (c .before .before .before .before .before .before .before .node-at .result) (c .before .before .before .before .before .before .before .node-at .ensures) _ _ (c .before .before .before .before .before .node3 .given .1) (c .before .before .write-word .ensures)
+write-value-returns-5 t c = let a = c .before .before .before .before .before .before .before .before .before .before .before .before .before .before .before .before .args in value-word (a .sorts .now) (a .members .now) (a .names .now) (a .nodes .now) (a .text .now) (a .at) (a .allow) _ _ _ (c .before .before .before .before .before .before .before .before .if1 .left) (c .before .before .before .before .before .before .before .node-at .result) (c .before .before .before .before .before .before .before .node-at .ensures) _ _ (c .before .before .before .before .before .node3 .given .1) (c .before .before .write-word .ensures)
 
--- src/value.rt:435:1
 write-value-same-length-4 : (t : ℕ) → write-value-lts.Need-same-length-4 (
   node-at-reads.Asked,
   node-at-reads.Learnt,
@@ -2704,7 +2527,6 @@ write-value-same-length-4 : (t : ℕ) → write-value-lts.Need-same-length-4 (
 ) (write-value-at t) write-value.Post
 write-value-same-length-4 t c = search needs
 
--- src/value.rt:435:1
 write-value-same-length-5 : (t : ℕ) → write-value-lts.Need-same-length-5 (
   node-at-reads.Asked,
   node-at-reads.Learnt,
@@ -2719,7 +2541,6 @@ write-value-same-length-5 : (t : ℕ) → write-value-lts.Need-same-length-5 (
 ) (write-value-at t) write-value.Post
 write-value-same-length-5 t c = search needs
 
--- src/value.rt:435:1
 write-value-returns-6 : (t : ℕ) → write-value-lts.Need-returns-6 (
   node-at-reads.Asked,
   node-at-reads.Learnt,
@@ -2732,9 +2553,8 @@ write-value-returns-6 : (t : ℕ) → write-value-lts.Need-returns-6 (
   write-app-below t,
   write-app.Post,
 ) (write-value-at t) write-value.Post
-write-value-returns-6 t c = value-app (c .before .before .before .before .before .before .before .before .before .before .before .before .before .before .before .before .before .before .args .sorts .now) (c .before .before .before .before .before .before .before .before .before .before .before .before .before .before .before .before .before .before .args .members .now) (c .before .before .before .before .before .before .before .before .before .before .before .before .before .before .before .before .before .before .args .names .now) (c .before .before .before .before .before .before .before .before .before .before .before .before .before .before .before .before .before .before .args .nodes .now) (c .before .before .before .before .before .before .before .before .before .before .before .before .before .before .before .before .before .before .args .text .now) (c .before .before .before .before .before .before .before .before .before .before .before .before .before .before .before .before .before .before .args .at) (c .before .before .before .before .before .before .before .before .before .before .before .before .before .before .before .before .before .before .args .allow) _ _ _ (c .before .before .before .before .before .before .before .before .before .before .if1 .left) (c .before .before .before .before .before .before .before .before .before .node-at .result) (c .before .before .before .before .before .before .before .before .before .node-at .ensures) _ _ (c .before .before .before .before .before .before .before .enum-told2 .given .1) (c .before .before .before .before .write-app .ensures)
+write-value-returns-6 t c = let a = c .before .before .before .before .before .before .before .before .before .before .before .before .before .before .before .before .before .before .args in value-app (a .sorts .now) (a .members .now) (a .names .now) (a .nodes .now) (a .text .now) (a .at) (a .allow) _ _ _ (c .before .before .before .before .before .before .before .before .before .before .if1 .left) (c .before .before .before .before .before .before .before .before .before .node-at .result) (c .before .before .before .before .before .before .before .before .before .node-at .ensures) _ _ (c .before .before .before .before .before .before .before .enum-told2 .given .1) (c .before .before .before .before .write-app .ensures)
 
--- src/value.rt:435:1
 write-value-returns-7 : (t : ℕ) → write-value-lts.Need-returns-7 (
   node-at-reads.Asked,
   node-at-reads.Learnt,
@@ -2747,7 +2567,7 @@ write-value-returns-7 : (t : ℕ) → write-value-lts.Need-returns-7 (
   write-app-below t,
   write-app.Post,
 ) (write-value-at t) write-value.Post
-write-value-returns-7 t c = value-nothing (c .before .before .before .before .before .before .before .before .before .before .before .args .sorts .now) (c .before .before .before .before .before .before .before .before .before .before .before .args .members .now) (c .before .before .before .before .before .before .before .before .before .before .before .args .names .now) (c .before .before .before .before .before .before .before .before .before .before .before .args .nodes .now) (c .before .before .before .before .before .before .before .before .before .before .before .args .text .now) (c .before .before .before .before .before .before .before .before .before .before .before .args .at) (c .before .before .before .before .before .before .before .before .before .before .before .args .allow) _ _ _ (c .before .before .before .if1 .left) (c .before .before .node-at .result) (c .before .before .node-at .ensures) (c .enum-told3 .given .1)
+write-value-returns-7 t c = let a = c .before .before .before .before .before .before .before .before .before .before .before .args in value-nothing (a .sorts .now) (a .members .now) (a .names .now) (a .nodes .now) (a .text .now) (a .at) (a .allow) _ _ _ (c .before .before .before .if1 .left) (c .before .before .node-at .result) (c .before .before .node-at .ensures) (c .enum-told3 .given .1)
 
 pub +write-app+write-fields+write-inside+write-made+write-members+write-record+write-set+write-some+write-value-spec :
     {M : Type 1} → statement M

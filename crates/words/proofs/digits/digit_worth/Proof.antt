@@ -7,39 +7,21 @@ use Rattle.words.proofs.digits.digit_worth.Reads as reads
 use Rattle.words.proofs.digits.digit_worth.Lts as lts
 use Rattle.std.proofs.num.wrapping_sub_u8.Reads as wrapping-sub-u8-reads
 
--- src/digits.rt:50:9
-wrapping-sub-u8-requires : tie.Need-wrapping-sub-u8-requires
-wrapping-sub-u8-requires c κs = search needs
-
--- src/digits.rt:52:9
 returns : tie.Need-returns
 returns c = a-decimal (c .before .before .args .byte) (c .before .wrapping-sub-u8 .result) (c .before .wrapping-sub-u8 .ensures) (c .if1 .taken)
 
--- src/digits.rt:55:9
 returns-2 : tie.Need-returns-2
 returns-2 c = no-decimal (c .before .before .before .args .byte) (c .before .before .wrapping-sub-u8 .result) (c .before .before .wrapping-sub-u8 .ensures) (omega arith) (c .before .if1 .left) (c .if2 .taken)
 
--- src/digits.rt:58:16
-sub-result : tie.Need-sub-result
-sub-result c = search needs
-
--- src/digits.rt:58:9
 returns-3 : tie.Need-returns-3
 returns-3 c = a-capital (c .before .before .before .before .args .byte) (c .before .if2 .left) (c .if3 .taken)
 
--- src/digits.rt:61:9
 returns-4 : tie.Need-returns-4
 returns-4 c = below-letters (c .before .before .before .before .before .args .byte) (c .before .if3 .left) (c .if4 .taken)
 
--- src/digits.rt:64:16
-sub-result-2 : tie.Need-sub-result-2
-sub-result-2 c = search needs
-
--- src/digits.rt:64:9
 returns-5 : tie.Need-returns-5
 returns-5 c = a-letter (c .before .before .before .before .before .before .args .byte) (c .before .if4 .left) (c .if5 .taken)
 
--- src/digits.rt:46:1
 returns-6 : tie.Need-returns-6
 returns-6 c = above-letters (c .before .before .before .before .before .before .args .byte) (c .if5 .left)
 
@@ -47,12 +29,12 @@ pub digit-worth-spec : {M : Type 1} → statement M
 digit-worth-spec =
     tie.close
     (tie.spec
-    wrapping-sub-u8-requires
+    (λ c κs. search needs)
     returns
     returns-2
-    sub-result
+    (λ c. search needs)
     returns-3
     returns-4
-    sub-result-2
+    (λ c. search needs)
     returns-5
     returns-6)

@@ -19,53 +19,23 @@ Inv-loop run base number₀ i₀ number i = (r : Radix) → base ≡ baseOf r �
 abbrev μ-loop : tie.MeasureT-loop
 μ-loop run base number₀ i₀ number i = length run - i
 
--- src/digits.rt:75:9
-base-requires : tie.Need-base-requires Inv-loop μ-loop
-base-requires c κs = search needs
-
--- src/digits.rt:78:5
 loop-holds : tie.Need-loop-holds Inv-loop μ-loop
 loop-holds c = λ r e. short-start r (c .before .before .args .run .now) (c .before .before .pre .0)
 
--- src/digits.rt:79:33
-shared-slice-read-digit-worth : tie.Need-shared-slice-read-digit-worth Inv-loop μ-loop
-shared-slice-read-digit-worth c = search needs
-
--- src/digits.rt:79:21
-digit-worth-requires : tie.Need-digit-worth-requires Inv-loop μ-loop
-digit-worth-requires c κs = search needs
-
--- src/digits.rt:79:21
-cast-digit : tie.Need-cast-digit Inv-loop μ-loop
-cast-digit c = search needs
-
--- src/digits.rt:81:13
 returns : tie.Need-returns Inv-loop μ-loop
-returns c = short-none (c .before .before .before .before .before .before .before .args .radix) (c .before .before .before .before .before .before .before .args .run .now) (c .before .before .before .before .loop .number) (c .before .before .before .before .loop .i) (c .before .digit-worth .result) (c .before .before .before .before .before .base .result) (c .before .before .before .before .loop .inv (c .before .before .before .before .before .before .before .args .radix) (c .before .before .before .before .before .base .ensures)) (c .before .before .before .loop-test .taken) (c .before .digit-worth .ensures) (c .before .before .before .before .before .base .ensures) (c .if1 .taken)
+returns c = let a = c .before .before .before .before .before .before .before .args in short-none (a .radix) (a .run .now) (c .before .before .before .before .loop .number) (c .before .before .before .before .loop .i) (c .before .digit-worth .result) (c .before .before .before .before .before .base .result) (c .before .before .before .before .loop .inv (a .radix) (c .before .before .before .before .before .base .ensures)) (c .before .before .before .loop-test .taken) (c .before .digit-worth .ensures) (c .before .before .before .before .before .base .ensures) (c .if1 .taken)
 
--- src/digits.rt:83:18
 mul-number : tie.Need-mul-number Inv-loop μ-loop
-mul-number c = omega (arith, next-fits (c .before .before .before .before .before .before .before .args .radix) (c .before .before .before .before .before .before .before .args .run .now) (c .before .before .before .before .loop .number) (c .before .before .before .before .loop .i) (c .before .digit-worth .result) (c .before .before .before .before .before .base .result) (c .before .before .before .before .loop .inv (c .before .before .before .before .before .before .before .args .radix) (c .before .before .before .before .before .base .ensures)) (c .before .before .before .loop-test .taken) (c .before .digit-worth .ensures) (c .before .before .before .before .before .base .ensures) (c .if1 .left) (c .before .before .before .before .before .before .before .pre .1))
+mul-number c = let a = c .before .before .before .before .before .before .before .args in omega (arith, next-fits (a .radix) (a .run .now) (c .before .before .before .before .loop .number) (c .before .before .before .before .loop .i) (c .before .digit-worth .result) (c .before .before .before .before .before .base .result) (c .before .before .before .before .loop .inv (a .radix) (c .before .before .before .before .before .base .ensures)) (c .before .before .before .loop-test .taken) (c .before .digit-worth .ensures) (c .before .before .before .before .before .base .ensures) (c .if1 .left) (c .before .before .before .before .before .before .before .pre .1))
 
--- src/digits.rt:83:18
 add-number : tie.Need-add-number Inv-loop μ-loop
-add-number c = omega (arith, next-fits (c .before .before .before .before .before .before .before .args .radix) (c .before .before .before .before .before .before .before .args .run .now) (c .before .before .before .before .loop .number) (c .before .before .before .before .loop .i) (c .before .digit-worth .result) (c .before .before .before .before .before .base .result) (c .before .before .before .before .loop .inv (c .before .before .before .before .before .before .before .args .radix) (c .before .before .before .before .before .base .ensures)) (c .before .before .before .loop-test .taken) (c .before .digit-worth .ensures) (c .before .before .before .before .before .base .ensures) (c .if1 .left) (c .before .before .before .before .before .before .before .pre .1))
+add-number c = let a = c .before .before .before .before .before .before .before .args in omega (arith, next-fits (a .radix) (a .run .now) (c .before .before .before .before .loop .number) (c .before .before .before .before .loop .i) (c .before .digit-worth .result) (c .before .before .before .before .before .base .result) (c .before .before .before .before .loop .inv (a .radix) (c .before .before .before .before .before .base .ensures)) (c .before .before .before .loop-test .taken) (c .before .digit-worth .ensures) (c .before .before .before .before .before .base .ensures) (c .if1 .left) (c .before .before .before .before .before .before .before .pre .1))
 
--- src/digits.rt:84:9
-add-i : tie.Need-add-i Inv-loop μ-loop
-add-i c = search needs
-
--- src/digits.rt:78:5
-loop-less : tie.Need-loop-less Inv-loop μ-loop
-loop-less c = search needs
-
--- src/digits.rt:78:5
 loop-again : tie.Need-loop-again Inv-loop μ-loop
-loop-again c = λ r e. short-next r (c .before .before .before .before .before .before .before .args .run .now) (c .before .before .before .before .loop .number) (c .before .before .before .before .loop .i) (c .before .digit-worth .result) (c .before .before .before .before .before .base .result) (c .before .before .before .before .loop .inv r e) (c .before .before .before .loop-test .taken) (c .before .digit-worth .ensures) e (c .if1 .left) (subst (λ (b : ℕ). b ^ length (c .before .before .before .before .before .before .before .args .run .now) ≤ 2 ^ 64) (sym (c .before .before .before .before .before .base .ensures) ∙ e) (c .before .before .before .before .before .before .before .pre .1))
+loop-again c = let a = c .before .before .before .before .before .before .before .args in λ r e. short-next r (a .run .now) (c .before .before .before .before .loop .number) (c .before .before .before .before .loop .i) (c .before .digit-worth .result) (c .before .before .before .before .before .base .result) (c .before .before .before .before .loop .inv r e) (c .before .before .before .loop-test .taken) (c .before .digit-worth .ensures) e (c .if1 .left) (subst (λ (b : ℕ). b ^ length (a .run .now) ≤ 2 ^ 64) (sym (c .before .before .before .before .before .base .ensures) ∙ e) (c .before .before .before .before .before .before .before .pre .1))
 
--- src/digits.rt:71:1
 returns-2 : tie.Need-returns-2 Inv-loop μ-loop
-returns-2 c = short-end (c .before .before .before .before .args .radix) (c .before .before .before .before .args .run .now) (c .before .loop .number) (c .before .loop .i) (c .before .loop .inv (c .before .before .before .before .args .radix) (c .before .before .base .ensures)) (c .loop-test .left)
+returns-2 c = let a = c .before .before .before .before .args in short-end (a .radix) (a .run .now) (c .before .loop .number) (c .before .loop .i) (c .before .loop .inv (a .radix) (c .before .before .base .ensures)) (c .loop-test .left)
 
 pub parse-word-spec : {M : Type 1} → statement M
 parse-word-spec =
@@ -73,15 +43,15 @@ parse-word-spec =
     (tie.spec
     Inv-loop
     μ-loop
-    base-requires
+    (λ c κs. search needs)
     loop-holds
-    shared-slice-read-digit-worth
-    digit-worth-requires
-    cast-digit
+    (λ c. search needs)
+    (λ c κs. search needs)
+    (λ c. search needs)
     returns
     mul-number
     add-number
-    add-i
-    loop-less
+    (λ c. search needs)
+    (λ c. search needs)
     loop-again
     returns-2)

@@ -6,25 +6,14 @@ use Rattle.brackets.proofs.scan.Scan.close_one.Reads as reads
 use Rattle.brackets.proofs.scan.Scan.close_one.Lts as lts
 use Rattle.brackets.proofs.scan.Scan.with_phase.Reads as with-phase-reads
 
--- src/scan.rt:93:13
-with-phase-requires : tie.Need-with-phase-requires
-with-phase-requires c κs = search needs
-
--- src/scan.rt:93:13
 returns : tie.Need-returns
 returns c = closed-none (c .before .before .before .args .self) (c .with-phase .ensures) (c .before .if1 .taken)
 
--- src/scan.rt:95:21
-sub-depth : tie.Need-sub-depth
-sub-depth c = search needs
-
--- src/scan.rt:97:13
 returns-2 : tie.Need-returns-2
 returns-2 c = closed-last (c .before .before .before .before .args .self) (c .before .before .if1 .left) (c .if2 .taken)
 
--- src/scan.rt:89:5
 returns-3 : tie.Need-returns-3
 returns-3 c = closed-more (c .before .before .before .before .args .self) (c .before .before .if1 .left) (c .if2 .left)
 
 pub close-one-spec : {M : Type 1} → statement M
-close-one-spec = tie.close (tie.spec with-phase-requires returns sub-depth returns-2 returns-3)
+close-one-spec = tie.close (tie.spec (λ c κs. search needs) returns (λ c. search needs) returns-2 returns-3)

@@ -6,23 +6,18 @@ use Rattle.words.proofs.pair.Pair.compare.Tie as tie
 use Rattle.words.proofs.pair.Pair.compare.Reads as reads
 use Rattle.words.proofs.pair.Pair.compare.Lts as lts
 
--- src/pair.rt:97:13
 returns : tie.Need-returns
 returns c = let a = c .before .before .before .args in ordered-less (a .self) (value (a .other)) (high-less _ _ _ _ (search needs) (c .if1 .taken))
 
--- src/pair.rt:100:13
 returns-2 : tie.Need-returns-2
 returns-2 c = let a = c .before .before .before .before .before .before .args in ordered-more (a .self) (value (a .other)) (high-less _ _ _ _ (search needs) (c .if2 .taken))
 
--- src/pair.rt:103:13
 returns-3 : tie.Need-returns-3
 returns-3 c = let a = c .before .before .before .before .before .before .before .before .before .args in ordered-less (a .self) (value (a .other)) (low-less _ _ _ _ (c .before .before .before .if2 .left) (c .before .before .before .before .before .before .if1 .left) (c .if3 .taken))
 
--- src/pair.rt:106:13
 returns-4 : tie.Need-returns-4
 returns-4 c = let a = c .before .before .before .before .before .before .before .before .before .before .before .before .args in ordered-more (a .self) (value (a .other)) (low-less _ _ _ _ (c .before .before .before .before .before .before .before .before .before .if1 .left) (c .before .before .before .before .before .before .if2 .left) (c .if4 .taken))
 
--- src/pair.rt:93:5
 returns-5 : tie.Need-returns-5
 returns-5 c = let a = c .before .before .before .before .before .before .before .before .before .before .before .before .args in ordered-same (a .self) (value (a .other)) (low-same _ _ _ _ (c .before .before .before .before .before .before .if2 .left) (c .before .before .before .before .before .before .before .before .before .if1 .left) (c .if4 .left) (c .before .before .before .if3 .left))
 

@@ -5,29 +5,17 @@ use Rattle.words.proofs.pair.Pair.reaches.Tie as tie
 use Rattle.words.proofs.pair.Pair.reaches.Reads as reads
 use Rattle.words.proofs.pair.Pair.reaches.Lts as lts
 
--- src/pair.rt:116:13
 returns : tie.Need-returns
 returns c = let a = c .before .args in reaches-none (a .self .low) (a .self .high) (a .width) (search needs) (search needs) (c .if1 .taken)
 
--- src/pair.rt:119:24
-shr-result : tie.Need-shr-result
-shr-result c = search needs
-
--- src/pair.rt:119:13
 returns-2 : tie.Need-returns-2
 returns-2 c = let a = c .before .before .before .args in reaches-high (a .self .low) (a .self .high) (a .width) (search needs) (c .before .if2 .taken)
 
--- src/pair.rt:122:13
 returns-3 : tie.Need-returns-3
 returns-3 c = let a = c .before .before .before .before .args in reaches-over (a .self .low) (a .self .high) (a .width) (search needs) (c .before .before .if2 .left) (c .if3 .taken)
 
--- src/pair.rt:124:13
-shr-result-2 : tie.Need-shr-result-2
-shr-result-2 c = search needs
-
--- src/pair.rt:112:5
 returns-4 : tie.Need-returns-4
 returns-4 c = let a = c .before .before .before .before .before .args in reaches-low (a .self .low) (a .self .high) (a .width) (search needs) (c .before .if3 .left)
 
 pub reaches-spec : {M : Type 1} → statement M
-reaches-spec = tie.close (tie.spec returns shr-result returns-2 returns-3 shr-result-2 returns-4)
+reaches-spec = tie.close (tie.spec returns (λ c. search needs) returns-2 returns-3 (λ c. search needs) returns-4)

@@ -12,59 +12,21 @@ use Rattle.words.proofs.pair.Pair.sign_extend.Reads as reads
 use Rattle.words.proofs.pair.Pair.sign_extend.Lts as lts
 use Rattle.words.proofs.pair.fill_from.Reads as fill-from-reads
 
--- src/pair.rt:68:13
 returns : tie.Need-returns
 returns c = let a = c .before .args in pair-value (a .self) _ (search needs) (extended-zero (value (a .self)) ∙ ap (λ (w : ℕ). extended w (value (a .self))) (sym (c .if1 .taken)))
 
--- src/pair.rt:71:13
 returns-2 : tie.Need-returns-2
 returns-2 c = let a = c .before .before .args in pair-value (a .self) _ (search needs) (extended-wide (a .width) (value (a .self)) (c .if2 .taken))
 
--- src/pair.rt:74:43
-sub-fill-from : tie.Need-sub-fill-from
-sub-fill-from c = search needs
-
--- src/pair.rt:74:17
-fill-from-requires : tie.Need-fill-from-requires
-fill-from-requires c κs = search needs
-
--- src/pair.rt:75:34
-enum-known-low : tie.Need-enum-known-low
-enum-known-low c = search needs
-
--- src/pair.rt:76:17
-enum-told : tie.Need-enum-told
-enum-told c = search needs
-
--- src/pair.rt:76:17
 returns-3 : tie.Need-returns-3
 returns-3 c = let a = c .before .before .before .before .before .before .args in pair-value (a .self) _ (search needs) (extends-low-positive (a .self .low) (a .self .high) (a .width) (search needs) (omega arith) (omega arith) (sym (c .before .before .fill-from .ensures) ∙ c .enum-told .given .1))
 
--- src/pair.rt:78:13
 returns-4 : tie.Need-returns-4
 returns-4 c = let a = c .before .before .before .before .before .before .before .args in pair-value _ _ (search needs) (extends-low-negative (a .self .low) (a .self .high) (a .width) (search needs) (omega arith) (omega arith) _ (sym (c .before .before .before .fill-from .ensures) ∙ c .before .low .given .1))
 
--- src/pair.rt:83:41
-sub-fill-from-2 : tie.Need-sub-fill-from-2
-sub-fill-from-2 c = search needs
-
--- src/pair.rt:83:13
-fill-from-requires-2 : tie.Need-fill-from-requires-2
-fill-from-requires-2 c κs = search needs
-
--- src/pair.rt:84:30
-enum-known-high : tie.Need-enum-known-high
-enum-known-high c = search needs
-
--- src/pair.rt:85:13
-enum-told-2 : tie.Need-enum-told-2
-enum-told-2 c = search needs
-
--- src/pair.rt:85:13
 returns-5 : tie.Need-returns-5
 returns-5 c = let a = c .before .before .before .before .before .before .args in pair-value (a .self) _ (search needs) (extends-high-positive (a .self .low) (a .self .high) (a .width) (search needs) (omega arith) (c .before .before .before .before .if2 .left) (sym (c .before .before .fill-from2 .ensures) ∙ c .enum-told2 .given .1))
 
--- src/pair.rt:64:5
 returns-6 : tie.Need-returns-6
 returns-6 c = let a = c .before .before .before .before .before .before .before .args in pair-value _ _ (search needs) (extends-high-negative (a .self .low) (a .self .high) (a .width) (search needs) (omega arith) (c .before .before .before .before .before .if2 .left) _ (sym (c .before .before .before .fill-from2 .ensures) ∙ c .before .high .given .1))
 
@@ -74,15 +36,15 @@ sign-extend-spec =
     (tie.spec
     returns
     returns-2
-    sub-fill-from
-    fill-from-requires
-    enum-known-low
-    enum-told
+    (λ c. search needs)
+    (λ c κs. search needs)
+    (λ c. search needs)
+    (λ c. search needs)
     returns-3
     returns-4
-    sub-fill-from-2
-    fill-from-requires-2
-    enum-known-high
-    enum-told-2
+    (λ c. search needs)
+    (λ c κs. search needs)
+    (λ c. search needs)
+    (λ c. search needs)
     returns-5
     returns-6)

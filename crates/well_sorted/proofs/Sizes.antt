@@ -22,11 +22,11 @@ use Rattle.values.specs.Text.{text}
 use Rattle.values.proofs.Lengths.{size, size-union, length-true, length-false, length-string, length-ext, length-bits, length-none, length-some, length-set, length-entity, length-record}
 use Rattle.literals.specs.Literal.{Lit, read}
 use Rattle.literals.proofs.Words.{signed-most}
-use Rattle.meaning.proofs.Results.{refuses}
-use Rattle.meaning.proofs.Views.{call2}
-use Rattle.meaning.proofs.Readings.{FieldReadings, f-nil, f-cons, Reading, r-bits, r-string, r-true, r-false, r-member, r-none, r-asSome, r-some, r-empty, r-singleton, r-union, r-extension, r-indexed, r-entity, r-record, reading}
-use Rattle.meaning.proofs.Members.{member-kept}
-use Rattle.meaning.proofs.Fits.{width-most}
+use Rattle.well_sorted.proofs.Results.{refuses}
+use Rattle.well_sorted.proofs.Views.{call2}
+use Rattle.well_sorted.proofs.Readings.{FieldReadings, f-nil, f-cons, Reading, r-bits, r-string, r-true, r-false, r-member, r-none, r-asSome, r-some, r-empty, r-singleton, r-union, r-extension, r-indexed, r-entity, r-record, reading}
+use Rattle.well_sorted.proofs.Members.{member-kept}
+use Rattle.well_sorted.proofs.Fits.{width-most}
 
 -- so many bytes a node, and two for each byte of the text
 abbrev pub roomBy : ℕ → Tree → ℕ

@@ -15,7 +15,7 @@ use Rattle.utf8.proofs.Concatenations.{utf8-means}
 use Rattle.arena.specs.Tree.{Tree, Trees, bitVec, numeral, string, symbol, app, nil, cons, Sound, SoundAll}
 use Rattle.values.specs.HasSort.{octets}
 use Rattle.values.proofs.Alls.{all-append}
-use Rattle.meaning.specs.Octets.{Octets, OctetsAll}
+use Rattle.well_sorted.specs.Octets.{Octets, OctetsAll}
 
 -- each span ends at a byte
 abbrev spanned : List Span → Bool

@@ -16,7 +16,7 @@ use Rattle.sorts.specs.Result.{Result, ok, _>>=_, unless}
 use Rattle.sorts.specs.Sort.{sortOf, readSort}
 use Rattle.values.specs.Value.{Values}
 use Rattle.literals.specs.Literal.{Lit, fieldsOf, madeRow, appLit, read}
-use Rattle.meaning.proofs.Results.{refuses, went}
+use Rattle.well_sorted.proofs.Results.{refuses, went}
 
 -- onwards, by another first step
 onwards : {A B : Type 0} (m n : Result A) (f g : A → Result B) (b : B) → (m >>= f) ≡ ok b → ((a : A) → m ≡ ok a → n ≡ ok a) → ((a : A) → f a ≡ ok b → g a ≡ ok b) → (n >>= g) ≡ ok b

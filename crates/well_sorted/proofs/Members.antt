@@ -15,7 +15,7 @@ use Rattle.tables.specs.Sort.{Sort, bool, string, ext, bitVec, optionOf, setOf,
 use Rattle.tables.specs.Rules.{nameLimit, ownName, isEntity}
 use Rattle.tables.proofs.Lawful.{Lawful, member-right}
 use Rattle.values.specs.HasSort.{octets}
-use Rattle.meaning.proofs.Sound.{utf8-octets}
+use Rattle.well_sorted.proofs.Sound.{utf8-octets}
 
 entity-here : (o : Option Sort) → isEntity o ≡ true → (name : List ℕ) × (o ≡ some (entityOf name))
 entity-here none e = absurd (true≢false (sym e))

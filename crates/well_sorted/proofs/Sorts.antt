@@ -16,8 +16,8 @@ use Rattle.shapes.specs.Shape.{is}
 use Rattle.shapes.specs.SortShape.{SortShape, word, widthOf, optionOf as optionShape, setOf as setShape, noSort, sortShape}
 use Rattle.sorts.specs.Result.{Result, ok}
 use Rattle.sorts.specs.Sort.{rowOf, sortWord, sortWidth, sortOf, readSort}
-use Rattle.meaning.proofs.Results.{refuses, went, passed, was-found}
-use Rattle.meaning.proofs.Finds.{at-within, named-is}
+use Rattle.well_sorted.proofs.Results.{refuses, went, passed, was-found}
+use Rattle.well_sorted.proofs.Finds.{at-within, named-is}
 
 abbrev pub There : Tables → ℕ → Type 0
 There T row = (s : Sort) × (at (T .sorts) row ≡ some s)

@@ -27,11 +27,11 @@ use Rattle.values.specs.HasSort.{HasSort, FieldSorts, Loose}
 use Rattle.values.proofs.Digits.{InWord}
 use Rattle.values.proofs.Unions.{union-fits}
 use Rattle.literals.specs.Literal.{Lit, unsigned, numbered, read}
-use Rattle.meaning.specs.Octets.{Octets, OctetsAll}
-use Rattle.meaning.proofs.Results.{refuses, ok-same}
-use Rattle.meaning.proofs.Readings.{FieldReadings, f-nil, f-cons, Reading, r-bits, r-string, r-true, r-false, r-member, r-none, r-asSome, r-some, r-empty, r-singleton, r-union, r-extension, r-indexed, r-entity, r-record, reading}
-use Rattle.meaning.proofs.Insides.{members-fit}
-use Rattle.meaning.proofs.Members.{member-kept}
+use Rattle.well_sorted.specs.Octets.{Octets, OctetsAll}
+use Rattle.well_sorted.proofs.Results.{refuses, ok-same}
+use Rattle.well_sorted.proofs.Readings.{FieldReadings, f-nil, f-cons, Reading, r-bits, r-string, r-true, r-false, r-member, r-none, r-asSome, r-some, r-empty, r-singleton, r-union, r-extension, r-indexed, r-entity, r-record, reading}
+use Rattle.well_sorted.proofs.Insides.{members-fit}
+use Rattle.well_sorted.proofs.Members.{member-kept}
 
 -- a number that was parsed has 128 bits
 number-fits : (r : Radix) (s : List ℕ) (n : ℕ) → numbered (parsed r s) ≡ ok n → n < 2 ^ 128

@@ -12,10 +12,10 @@ use Rattle.tables.proofs.Lawful.{Lawful, lawful-parts}
 use Rattle.sorts.specs.Result.{ok}
 use Rattle.values.specs.Value.{Value}
 use Rattle.literals.specs.Literal.{Lit, read}
-use Rattle.meaning.proofs.Results.{refuses}
-use Rattle.meaning.proofs.Sorts.{There, there-within}
-use Rattle.meaning.proofs.Readings.{Reading, r-bits, r-string, r-true, r-false, r-member, r-none, r-asSome, r-some, r-empty, r-singleton, r-union, r-extension, r-indexed, r-entity, r-record, reading}
-use Rattle.meaning.proofs.Members.{member-kept}
+use Rattle.well_sorted.proofs.Results.{refuses}
+use Rattle.well_sorted.proofs.Sorts.{There, there-within}
+use Rattle.well_sorted.proofs.Readings.{Reading, r-bits, r-string, r-true, r-false, r-member, r-none, r-asSome, r-some, r-empty, r-singleton, r-union, r-extension, r-indexed, r-entity, r-record, reading}
+use Rattle.well_sorted.proofs.Members.{member-kept}
 
 module _ (T : Tables) where
   reading-there : Lawful T → (a : ℕ) → ((e : Option ℕ) (t : Tree) (l : Lit) → read T a e t ≡ ok l → There T (l .row)) → (e : Option ℕ) (t : Tree) (row : ℕ) (v : Value) → Reading T a e t row v → There T row

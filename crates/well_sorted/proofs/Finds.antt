@@ -18,7 +18,7 @@ use Rattle.tables.proofs.Only.{sort-found}
 use Rattle.refusals.specs.declared.Refusal.the-variants.{NoSortRow}
 use Rattle.sorts.specs.Result.{ok}
 use Rattle.sorts.specs.Sort.{rowOf}
-use Rattle.meaning.proofs.Results.{was-found}
+use Rattle.well_sorted.proofs.Results.{was-found}
 
 pub at-within : {A : Type 0} (xs : List A) (i : ℕ) (x : A) → at xs i ≡ some x → i < length xs
 unfolding at

@@ -1,0 +1,60 @@
+#!/usr/bin/env python3
+"""deps.py [--write | --picture]: what each crate of crates.txt names directly, in its code, its definitions and its proofs.
+
+Without an option: fails where crates.txt names a crate that is not named there, or leaves one out. --write sets the names in
+crates.txt right. --picture prints each crate with those crates it names that none of its other crates reaches: what README draws."""
+import glob
+import re
+import sys
+
+KIT = ["check", "libc", "io", "os", "bytes"]
+LINE = re.compile(r"^([a-z0-9_]+):([^#\n]*)(#.*)?$")
+
+
+def named(crate, known):
+    found, own = set(), {crate}
+    for path in glob.glob(f"crates/{crate}/**/*", recursive=True):
+        if path.endswith((".rt", ".antt")):
+            with open(path, encoding="utf8") as f:
+                text = f.read()
+            found |= set(re.findall(r"Rattle·([a-z0-9_]+)[.·]", text))
+            if path.endswith(".rt"):
+                code = re.sub(r"//.*", "", text)
+                found |= set(re.findall(r"(?<![\w:])([a-z0-9_]+)::", code))
+                own |= set(re.findall(r"^\s*(?:pub )?mod (\w+);", code, re.M))
+    return [d for d in known if d in found and d not in own]
+
+
+def main():
+    with open("crates.txt", encoding="utf8") as f:
+        lines = f.read().split("\n")
+    crates = [m.group(1) for m in map(LINE.match, lines) if m]
+    known = crates + KIT
+    direct = {c: named(c, known) for c in crates}
+    reach = {}
+    for c in crates:
+        below = set()
+        for d in direct[c]:
+            below |= {d} | reach.get(d, set())
+        reach[c] = below
+    if "--picture" in sys.argv:
+        for c in crates:
+            print(c + ":", " ".join(d for d in direct[c] if not any(d in reach.get(e, ()) for e in direct[c])))
+        return
+    wrong, out = 0, []
+    for line in lines:
+        m = LINE.match(line)
+        if m and m.group(2).split() != direct[m.group(1)]:
+            wrong += 1
+            said, want = set(m.group(2).split()), set(direct[m.group(1)])
+            print(m.group(1), "less:", " ".join(sorted(said - want)), "more:", " ".join(sorted(want - said)))
+            line = (m.group(1) + ": " + " ".join(direct[m.group(1)])).ljust(30).rstrip() + "  " + (m.group(3) or "")
+        out.append(line)
+    if "--write" in sys.argv:
+        with open("crates.txt", "w", encoding="utf8") as f:
+            f.write("\n".join(out))
+    print(len(crates), "crates,", sum(map(len, direct.values())), "names,", wrong, "lines", "set right" if "--write" in sys.argv else "wrong")
+    sys.exit(1 if wrong and "--write" not in sys.argv else 0)
+
+
+main()
