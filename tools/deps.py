@@ -8,11 +8,13 @@ import re
 import sys
 
 KIT = ["check", "libc", "io", "os", "bytes"]
+# A crate that reaches into a value of a type which it does not name: `replay::number(..).low` is a field of words::Pair.
+BY_TYPE = {"replay_lines": ["words"], "replay_trees": ["words"]}
 LINE = re.compile(r"^([a-z0-9_]+):([^#\n]*)(#.*)?$")
 
 
 def named(crate, known):
-    found, own = set(), {crate}
+    found, own = set(BY_TYPE.get(crate, [])), {crate}
     for path in glob.glob(f"crates/{crate}/**/*", recursive=True):
         if path.endswith((".rt", ".antt")):
             with open(path, encoding="utf8") as f:

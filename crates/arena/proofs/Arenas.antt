@@ -47,8 +47,8 @@ module _ (ws ts : List ℕ) (t : Tree) where
 abbrev pub rootOf : List ℕ → Node → Tree
 rootOf ts (BitVec width low high) = bitVec width (low + high * 2 ^ 64)
 rootOf ts (Numeral low high) = numeral (low + high * 2 ^ 64)
-rootOf ts (String length offset) = string (textAt ts offset length)
-rootOf ts (Symbol length offset) = symbol (textAt ts offset length)
+rootOf ts (String size offset) = string (textAt ts offset size)
+rootOf ts (Symbol size offset) = symbol (textAt ts offset size)
 rootOf ts (App children end) = app nil
 rootOf ts NoNode = app nil
 

@@ -13,31 +13,31 @@ use Rattle.ground.proofs.Tests.{by-test, by-cond}
 use Rattle.ground.proofs.Lists.{at-place}
 use Rattle.arena.specs.declared.node.Node.{Node}
 use Rattle.arena.specs.declared.node.Node.the-variants.{BitVec, Numeral, String, Symbol, App, NoNode}
-use Rattle.arena.specs.Layout.{stride, nodeWords}
+use Rattle.arena.specs.Layout.{stride, bitVecKind, numeralKind, stringKind, symbolKind, appKind, nodeWords}
 use Rattle.arena.specs.Node.{unused, nodeOf, nodeAt, afterOf, afterAt}
 
 abbrev pub there : Node → Bool
 there (BitVec width low high) = true
 there (Numeral low high) = true
-there (String length offset) = true
-there (Symbol length offset) = true
+there (String size offset) = true
+there (Symbol size offset) = true
 there (App children end) = true
 there NoNode = false
 
 -- the words of a node that is there
 abbrev pub laid : Node → List ℕ
-laid (BitVec width low high) = nodeWords 1 width low high
-laid (Numeral low high) = nodeWords 2 0 low high
-laid (String length offset) = nodeWords 3 length offset 0
-laid (Symbol length offset) = nodeWords 4 length offset 0
-laid (App children end) = nodeWords 5 children end 0
+laid (BitVec width low high) = nodeWords bitVecKind width low high
+laid (Numeral low high) = nodeWords numeralKind 0 low high
+laid (String size offset) = nodeWords stringKind size offset 0
+laid (Symbol size offset) = nodeWords symbolKind size offset 0
+laid (App children end) = nodeWords appKind children end 0
 laid NoNode = []
 
 pub length-laid : (n : Node) → there n ≡ true → length (laid n) ≡ stride
 length-laid (BitVec width low high) e = refl
 length-laid (Numeral low high) e = refl
-length-laid (String length offset) e = refl
-length-laid (Symbol length offset) e = refl
+length-laid (String size offset) e = refl
+length-laid (Symbol size offset) e = refl
 length-laid (App children end) e = refl
 length-laid NoNode e = absurd (true≢false (sym e))
 
@@ -47,8 +47,8 @@ read ws = nodeOf (getD ws 0 0) (getD ws 1 0) (getD ws 2 0) (getD ws 3 0)
 read-laid : (n : Node) → there n ≡ true → read (laid n) ≡ n
 read-laid (BitVec width low high) e = refl
 read-laid (Numeral low high) e = refl
-read-laid (String length offset) e = refl
-read-laid (Symbol length offset) e = refl
+read-laid (String size offset) e = refl
+read-laid (Symbol size offset) e = refl
 read-laid (App children end) e = refl
 read-laid NoNode e = absurd (true≢false (sym e))
 

@@ -1,4 +1,4 @@
-// A node by its number. The stride and the place of each word stand here and nowhere else in the code.
+// A node by its number. The stride, the kinds and the place of each word are named here and nowhere else in the code.
 ghost use mathlib.Core.Path.{_≡_};
 ghost use Rattle.arena.specs.Node.{unused, nodeOf, nodeAt, afterAt};
 
@@ -6,14 +6,30 @@ ghost use Rattle.arena.specs.Node.{unused, nodeOf, nodeAt, afterAt};
 pub enum Node {
     BitVec { width: u64, low: u64, high: u64 },
     Numeral { low: u64, high: u64 },
-    String { length: u64, offset: u64 },
-    Symbol { length: u64, offset: u64 },
+    String { size: u64, offset: u64 },
+    Symbol { size: u64, offset: u64 },
     App { children: u64, end: u64 },
     NoNode,
 }
 
 // How many words a node has.
 pub const STRIDE: usize = 4;
+
+// The kinds, as word 0 has them.
+pub const BIT_VEC: u64 = 1;
+pub const NUMERAL: u64 = 2;
+pub const STRING: u64 = 3;
+pub const SYMBOL: u64 = 4;
+pub const APP: u64 = 5;
+
+// The places of the words behind the kind.
+pub const FIRST: usize = 1;
+pub const SECOND: usize = 2;
+pub const THIRD: usize = 3;
+
+// Where an application counts its children, and where it has its end.
+pub const CHILDREN: usize = FIRST;
+pub const END: usize = SECOND;
 
 // A node whose kind leaves a word unused, where that word is 0.
 fn unused(word: u64, node: Node) -> Node
@@ -30,27 +46,27 @@ fn node_of(kind: u64, w1: u64, w2: u64, w3: u64) -> Node
     ensures { λ r. ⌜ r ≡ nodeOf kind w1 w2 w3 ⌝ }
 {
     match kind {
-        1 => Node::BitVec {
+        BIT_VEC => Node::BitVec {
             width: w1,
             low: w2,
             high: w3,
         },
-        2 => unused(w1, Node::Numeral { low: w2, high: w3 }),
-        3 => unused(
+        NUMERAL => unused(w1, Node::Numeral { low: w2, high: w3 }),
+        STRING => unused(
             w3,
             Node::String {
-                length: w1,
+                size: w1,
                 offset: w2,
             },
         ),
-        4 => unused(
+        SYMBOL => unused(
             w3,
             Node::Symbol {
-                length: w1,
+                size: w1,
                 offset: w2,
             },
         ),
-        5 => unused(
+        APP => unused(
             w3,
             Node::App {
                 children: w1,
@@ -70,9 +86,9 @@ pub fn node_at(words: &[u64], at: usize) -> Node
     }
     let first = at * STRIDE;
     let kind = words[first];
-    let w1 = words[first + 1];
-    let w2 = words[first + 2];
-    let w3 = words[first + 3];
+    let w1 = words[first + FIRST];
+    let w2 = words[first + SECOND];
+    let w3 = words[first + THIRD];
     node_of(kind, w1, w2, w3)
 }
 
@@ -89,11 +105,11 @@ pub fn after(words: &[u64], at: usize) -> usize
         } => at + 1,
         Node::Numeral { low: _, high: _ } => at + 1,
         Node::String {
-            length: _,
+            size: _,
             offset: _,
         } => at + 1,
         Node::Symbol {
-            length: _,
+            size: _,
             offset: _,
         } => at + 1,
         Node::App { children: _, end } => end as usize,

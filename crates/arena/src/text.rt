@@ -42,17 +42,17 @@ pub fn same(a: &[u8], b: &[u8]) -> bool
 }
 
 // Whether the bytes from an offset on are a name; no where they run past the text.
-pub fn text_is(text: &[u8], offset: u64, length: u64, name: &[u8]) -> bool
-    ensures { λ r. ⌜ r ≡ textIs (now (text .entry)) offset length (now (name .entry)) ⌝ }
+pub fn text_is(text: &[u8], offset: u64, size: u64, name: &[u8]) -> bool
+    ensures { λ r. ⌜ r ≡ textIs (now (text .entry)) offset size (now (name .entry)) ⌝ }
 {
     let most = text.len() as u64;
     if most < offset {
         return false;
     }
-    if most - offset < length {
+    if most - offset < size {
         return false;
     }
     let start = offset as usize;
-    let end = (offset + length) as usize;
+    let end = (offset + size) as usize;
     same(&text[start..end], name)
 }

@@ -11,7 +11,7 @@ use Rattle.arena.specs.Node.{afterAt}
 use Rattle.arena_check.specs.Right.{Tells, Link, Chain}
 use Rattle.arena_check.proofs.Told.{tells-no}
 
--- what is left of a chain after some of its links stands for the whole
+-- what is left of a chain after nonzero of its links stands for the whole
 pub record Left (count : ℕ) (ws : List ℕ) (from end left at : ℕ) : Type 0 where
   pub whole : Chain left ws at end → Chain count ws from end
   pub rest : Chain count ws from end → Chain left ws at end
@@ -20,7 +20,7 @@ pub left-start : (count : ℕ) (ws : List ℕ) (from end : ℕ) → Left count w
 left-start count ws from end = record { whole = λ c. c; rest = λ c. c }
 
 module _ {count : ℕ} {ws : List ℕ} {from end left at : ℕ} (h : Left count ws from end left at) where
-  module _ (some : 0 < left) where
+  module _ (nonzero : 0 < left) where
     one-more : suc (left - 1) ≡ left
     one-more = omega arith
 
@@ -46,12 +46,12 @@ module _ {count : ℕ} {ws : List ℕ} {from end left at : ℕ} (h : Left count 
       rest = λ c. subst (λ (n : ℕ). Chain (left - 1) ws n end) (sym e) (link c .others);
     }
 
-  module _ (none : left ≡ 0) where
+  module _ (finished : left ≡ 0) where
     ends : Chain left ws at end → at ≡ end
-    ends c = subst (λ (n : ℕ). Chain n ws at end) none c
+    ends c = subst (λ (n : ℕ). Chain n ws at end) finished c
 
     pub left-end : Tells (Chain count ws from end) (eqb at end)
     left-end = record {
-      yes = λ e. h .whole (subst (λ (n : ℕ). Chain n ws at end) (sym none) (eqb-true at end e));
+      yes = λ e. h .whole (subst (λ (n : ℕ). Chain n ws at end) (sym finished) (eqb-true at end e));
       no = λ e c. eqb-false at end e (ends (h .rest c));
     }

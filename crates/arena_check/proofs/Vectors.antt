@@ -50,7 +50,7 @@ spared w h = omega arith
 wide : (w : ℕ) → 128 ≤ w → 127 ≤ w - 1
 wide w h = omega arith
 
-module _ (w : ℕ) (some : 0 < w) where
+module _ (w : ℕ) (nonzero : 0 < w) where
   double : 2 ^ w ≡ 2 ^ (w - 1) * 2
   double = let e : w ≡ w - 1 + 1 = omega arith in ap (λ (k : ℕ). 2 ^ k) e ∙ pow-add 2 (w - 1) 1
 
@@ -88,7 +88,7 @@ module _ (w : ℕ) (some : 0 < w) where
       sign-short : Extended n
       sign-short =
           upper a n (n % 2 ^ w % 2 ^ w) (2 ^ w) (2 ^ 128) sum small (pow-mono {i = w} {j = 128} (le-of-lt short)) again
-          ∙ extended-negative w (n % 2 ^ w) some short set
+          ∙ extended-negative w (n % 2 ^ w) nonzero short set
 
     sign-negative : a < 2 ^ (w - 1) → Extended n
     sign-negative h = by-order w 128 (λ k. sign-short k h) (λ k. sign-wide n k (under a n (2 ^ 128) sum (pow-pos 128)))
@@ -98,7 +98,7 @@ module _ (w : ℕ) (some : 0 < w) where
       neither-short short =
           by-test (negative w (n % 2 ^ w))
           (λ t.
-          let f : n ≡ n % 2 ^ w % 2 ^ w + (2 ^ 128 - 2 ^ w) = e ∙ sym (extended-negative w (n % 2 ^ w) some short t) in
+          let f : n ≡ n % 2 ^ w % 2 ^ w + (2 ^ 128 - 2 ^ w) = e ∙ sym (extended-negative w (n % 2 ^ w) nonzero short t) in
           apart a (2 ^ (w - 1))
           (lower a n (n % 2 ^ w % 2 ^ w) (2 ^ (w - 1)) (2 ^ w) (2 ^ 128) sum (pow-mono {i = w} {j = 128} (le-of-lt short)) double f
           (leb-true _ _ t) (mod-lt (n % 2 ^ w) (pow-pos w))) deep)
@@ -132,7 +132,7 @@ complements l h a b =
 positive : (w : ℕ) → (w ≡ 0 → ⊥) → 0 < w
 positive w h = omega (arith, h)
 
-module _ (w l h : ℕ) (some : w ≡ 0 → ⊥) (most : w ≤ mostWidth) (low : l < 2 ^ 64) (high : h < 2 ^ 64) where
+module _ (w l h : ℕ) (nonzero : w ≡ 0 → ⊥) (most : w ≤ mostWidth) (low : l < 2 ^ 64) (high : h < 2 ^ 64) where
   abbrev number : ℕ
   number = l + h * 2 ^ 64
 
@@ -140,14 +140,14 @@ module _ (w l h : ℕ) (some : w ≡ 0 → ⊥) (most : w ≤ mostWidth) (low : 
   complement = (ones - l) + (ones - h) * 2 ^ 64
 
   extends : number ≡ extended w (number % 2 ^ w) → Tells (BitVector w number) true
-  extends e = tells-yes (record { least = positive w some; most = most; fits = value-fits l h low high; sign = e })
+  extends e = tells-yes (record { least = positive w nonzero; most = most; fits = value-fits l h low high; sign = e })
 
   pub vector-positive : leb (2 ^ (w - 1)) number ≡ false → Tells (BitVector w number) true
-  vector-positive e = extends (sign-positive w (positive w some) number (leb-false _ _ e))
+  vector-positive e = extends (sign-positive w (positive w nonzero) number (leb-false _ _ e))
 
   pub vector-negative : leb (2 ^ (w - 1)) complement ≡ false → Tells (BitVector w number) true
-  vector-negative e = extends (sign-negative w (positive w some) number complement (complements l h low high) (leb-false _ _ e))
+  vector-negative e = extends (sign-negative w (positive w nonzero) number complement (complements l h low high) (leb-false _ _ e))
 
   pub vector-neither : leb (2 ^ (w - 1)) number ≡ true → leb (2 ^ (w - 1)) complement ≡ true → Tells (BitVector w number) false
   vector-neither e f =
-      tells-no (λ b. sign-neither w (positive w some) number complement (complements l h low high) (leb-true _ _ e) (leb-true _ _ f) (b .sign))
+      tells-no (λ b. sign-neither w (positive w nonzero) number complement (complements l h low high) (leb-true _ _ e) (leb-true _ _ f) (b .sign))

@@ -64,8 +64,8 @@ fn is_chain(words: &[u64], from: usize, count: u64, end: usize) -> bool
 }
 
 // The text of a node begins where the text before it ended, so that there is no gap.
-fn check_text(text: &[u8], length: u64, offset: u64, from: usize) -> Step
-    ensures { λ r. ⌜ Steps (Written (now (text .entry)) length offset from) (from + length) r ⌝ }
+fn check_text(text: &[u8], size: u64, offset: u64, from: usize) -> Step
+    ensures { λ r. ⌜ Steps (Written (now (text .entry)) size offset from) (from + size) r ⌝ }
 {
     if offset != from as u64 {
         return Step::Wrong;
@@ -74,10 +74,10 @@ fn check_text(text: &[u8], length: u64, offset: u64, from: usize) -> Step
         return Step::Wrong;
     }
     let left = (text.len() - from) as u64;
-    if left < length {
+    if left < size {
         return Step::Wrong;
     }
-    let end = from + length as usize;
+    let end = from + size as usize;
     if is_utf8(&text[from..end]) {
         return Step::To(end);
     }
@@ -101,8 +101,8 @@ pub fn check_node(words: &[u64], text: &[u8], at: usize, from: usize) -> Step
     match node {
         Node::BitVec { width, low, high } => stay(is_bit_vector(width, Pair { low, high }), from),
         Node::Numeral { low: _, high: _ } => Step::To(from),
-        Node::String { length, offset } => check_text(text, length, offset, from),
-        Node::Symbol { length, offset } => check_text(text, length, offset, from),
+        Node::String { size, offset } => check_text(text, size, offset, from),
+        Node::Symbol { size, offset } => check_text(text, size, offset, from),
         Node::App { children, end } => stay(is_chain(words, at + 1, children, end as usize), from),
         Node::NoNode => Step::Wrong,
     }

@@ -15,15 +15,15 @@ fn write_when(
     nodes: &[u64],
     text: &[u8],
     offset: u64,
-    length: u64,
+    size: u64,
     test: usize,
     scratch: &mut [u8],
     out: &mut [u8],
     place: usize,
 ) -> usize
-    ensures { λ r. ⌜ WritesWhen (now (sorts .entry)) (now (members .entry)) (now (names .entry)) (now (nodes .entry)) (now (text .entry)) offset length test (now (out .entry)) (now (out .exit)) place r ⌝ }
+    ensures { λ r. ⌜ WritesWhen (now (sorts .entry)) (now (members .entry)) (now (names .entry)) (now (nodes .entry)) (now (text .entry)) offset size test (now (out .entry)) (now (out .exit)) place r ⌝ }
 {
-    let key = key_at(nodes, text, test, offset, length);
+    let key = key_at(nodes, text, test, offset, size);
     match key {
         KeyFound::Key(node) => {
             let one = put(b"when=", out, place);
@@ -53,14 +53,14 @@ pub fn write_arm(
     nodes: &[u64],
     text: &[u8],
     offset: u64,
-    length: u64,
+    size: u64,
     test: usize,
     value: usize,
     scratch: &mut [u8],
     out: &mut [u8],
     place: usize,
 ) -> usize
-    ensures { λ r. ⌜ WritesArm (now (sorts .entry)) (now (members .entry)) (now (names .entry)) (now (nodes .entry)) (now (text .entry)) offset length test value (now (out .entry)) (now (out .exit)) place r ⌝ }
+    ensures { λ r. ⌜ WritesArm (now (sorts .entry)) (now (members .entry)) (now (names .entry)) (now (nodes .entry)) (now (text .entry)) offset size test value (now (out .entry)) (now (out .exit)) place r ⌝ }
 {
     let one = write_when(
         sorts,
@@ -69,7 +69,7 @@ pub fn write_arm(
         nodes,
         text,
         offset,
-        length,
+        size,
         test,
         scratch,
         out,
@@ -98,13 +98,13 @@ pub fn write_test(
     nodes: &[u64],
     text: &[u8],
     offset: u64,
-    length: u64,
+    size: u64,
     test: usize,
     scratch: &mut [u8],
     out: &mut [u8],
     place: usize,
 ) -> usize
-    ensures { λ r. ⌜ WritesTest (now (sorts .entry)) (now (members .entry)) (now (names .entry)) (now (nodes .entry)) (now (text .entry)) offset length test (now (out .entry)) (now (out .exit)) place r ⌝ }
+    ensures { λ r. ⌜ WritesTest (now (sorts .entry)) (now (members .entry)) (now (names .entry)) (now (nodes .entry)) (now (text .entry)) offset size test (now (out .entry)) (now (out .exit)) place r ⌝ }
 {
     let one = write_when(
         sorts,
@@ -113,7 +113,7 @@ pub fn write_test(
         nodes,
         text,
         offset,
-        length,
+        size,
         test,
         scratch,
         out,

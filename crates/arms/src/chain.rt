@@ -18,13 +18,13 @@ pub fn write_chain(
     nodes: &[u64],
     text: &[u8],
     offset: u64,
-    length: u64,
+    size: u64,
     body: usize,
     scratch: &mut [u8],
     out: &mut [u8],
     place: usize,
 ) -> Chained
-    ensures { λ r. ⌜ WritesChain (now (sorts .entry)) (now (members .entry)) (now (names .entry)) (now (nodes .entry)) (now (text .entry)) offset length body (now (out .entry)) (now (out .exit)) place r ⌝ }
+    ensures { λ r. ⌜ WritesChain (now (sorts .entry)) (now (members .entry)) (now (names .entry)) (now (nodes .entry)) (now (text .entry)) offset size body (now (out .entry)) (now (out .exit)) place r ⌝ }
 {
     let mut at = body;
     let mut to = place;
@@ -45,7 +45,7 @@ pub fn write_chain(
                     nodes,
                     text,
                     offset,
-                    length,
+                    size,
                     test,
                     value,
                     scratch,

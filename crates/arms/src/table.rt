@@ -47,13 +47,13 @@ pub fn write_table(
     nodes: &[u64],
     text: &[u8],
     offset: u64,
-    length: u64,
+    size: u64,
     body: usize,
     scratch: &mut [u8],
     out: &mut [u8],
     place: usize,
 ) -> usize
-    ensures { λ r. ⌜ WritesTable (now (sorts .entry)) (now (members .entry)) (now (names .entry)) (now (nodes .entry)) (now (text .entry)) offset length body (now (out .entry)) (now (out .exit)) place r ⌝ }
+    ensures { λ r. ⌜ WritesTable (now (sorts .entry)) (now (members .entry)) (now (names .entry)) (now (nodes .entry)) (now (text .entry)) offset size body (now (out .entry)) (now (out .exit)) place r ⌝ }
 {
     let tests = tests_at(nodes, text, body);
     match tests {
@@ -65,7 +65,7 @@ pub fn write_table(
                 nodes,
                 text,
                 offset,
-                length,
+                size,
                 first,
                 count,
                 scratch,
@@ -83,7 +83,7 @@ pub fn write_table(
                 nodes,
                 text,
                 offset,
-                length,
+                size,
                 body,
                 scratch,
                 out,

@@ -11,14 +11,14 @@ pub fn write_tests(
     nodes: &[u64],
     text: &[u8],
     offset: u64,
-    length: u64,
+    size: u64,
     first: usize,
     count: u64,
     scratch: &mut [u8],
     out: &mut [u8],
     place: usize,
 ) -> usize
-    ensures { λ r. ⌜ WritesTests (now (sorts .entry)) (now (members .entry)) (now (names .entry)) (now (nodes .entry)) (now (text .entry)) offset length first count (now (out .entry)) (now (out .exit)) place r ⌝ }
+    ensures { λ r. ⌜ WritesTests (now (sorts .entry)) (now (members .entry)) (now (names .entry)) (now (nodes .entry)) (now (text .entry)) offset size first count (now (out .entry)) (now (out .exit)) place r ⌝ }
 {
     let mut at = first;
     let mut to = place;
@@ -31,7 +31,7 @@ pub fn write_tests(
             nodes,
             text,
             offset,
-            length,
+            size,
             at,
             scratch,
             out,

@@ -6,16 +6,16 @@ use Prim.Native.Nat.{ℕ, _+_, _-_, _*_, _^_, _≤_, _<_}
 use lib.Dec.{eqb}
 use lib.ListN.{length, getD, set}
 use lib.Seq.{sets}
-use Rattle.arena.specs.Layout.{stride, appWords}
+use Rattle.arena.specs.Layout.{stride, childrenWord, endWord, appWords}
 use Rattle.brackets.specs.declared.scan.Scan.{Scan}
 use Rattle.brackets.specs.Token.{Token, opens, closes, atom, atomText, atomWords}
 
 -- where an application counts its children, and where it has its end
 abbrev pub childrenCell : ℕ → ℕ
-childrenCell n = n * stride + 1
+childrenCell n = n * stride + childrenWord
 
 abbrev pub endCell : ℕ → ℕ
-endCell n = n * stride + 2
+endCell n = n * stride + endWord
 
 -- the first node of the innermost of d open lists
 abbrev pub innermost : ℕ → List ℕ → ℕ

@@ -1,5 +1,11 @@
 // Nodes written as the walk meets them: an application's words are completed where it ends.
+use arena::APP;
+use arena::CHILDREN;
+use arena::END;
+use arena::FIRST;
+use arena::SECOND;
 use arena::STRIDE;
+use arena::THIRD;
 ghost use mathlib.Core.Path.{_≡_};
 ghost use mathlib.Core.List.{[], _∷_, _++_};
 ghost use Prim.Native.Nat.{_+_, _*_, _≤_};
@@ -22,9 +28,9 @@ fn put_node(nodes: &mut [u64], at: usize, words: Words)
 {
     let first = at * STRIDE;
     nodes[first] = words.kind;
-    nodes[first + 1] = words.one;
-    nodes[first + 2] = words.two;
-    nodes[first + 3] = words.three;
+    nodes[first + FIRST] = words.one;
+    nodes[first + SECOND] = words.two;
+    nodes[first + THIRD] = words.three;
 }
 
 // One child more of the innermost of so many open lists.
@@ -36,7 +42,7 @@ fn bump(depth: usize, nodes: &mut [u64], stack: &[u64])
         return;
     }
     let list = stack[depth - 1] as usize;
-    let cell = list * STRIDE + 1;
+    let cell = list * STRIDE + CHILDREN;
     nodes[cell] = nodes[cell] + 1;
 }
 
@@ -46,7 +52,7 @@ pub fn put_open(at: usize, depth: usize, nodes: &mut [u64], stack: &mut [u64])
     ensures { λ _. ⌜ Opened at depth (now (nodes .entry)) (now (nodes .exit)) (now (stack .entry)) (now (stack .exit)) ⌝ }
 {
     let words = Words {
-        kind: 5,
+        kind: APP,
         one: 0,
         two: 0,
         three: 0,
@@ -62,7 +68,7 @@ pub fn put_close(at: usize, depth: usize, nodes: &mut [u64], stack: &[u64])
 {
     let outer = depth - 1;
     let list = stack[outer] as usize;
-    let cell = list * STRIDE + 2;
+    let cell = list * STRIDE + END;
     nodes[cell] = at as u64;
     bump(outer, nodes, stack);
 }

@@ -6,6 +6,7 @@ use mathlib.Core.List.{List}
 use Prim.Native.Nat.{ℕ, _+_}
 use native.Mathlib.Omega.{arith}
 use Rattle.ground.specs.Bytes.{bytes}
+use Rattle.refusals.specs.declared.Refusal.the-variants.{UnexpectedModel}
 use Rattle.arena.specs.Node.{afterAt}
 use Rattle.arena.specs.Text.{textIs}
 use Rattle.arena.specs.Tree.{Tree, Trees, symbol, app, nil, cons}
@@ -19,10 +20,13 @@ use Rattle.commands.specs.declared.command.CommandFound.{CommandFound}
 use Rattle.commands.specs.Command.{Command, misshapen, argument, arguments, parts, command}
 use Rattle.commands.specs.CommandShows.{CommandShows, CommandAt, FiveAt, ArgumentsAt, ArgumentAt}
 
+abbrev Wrong : CommandFound
+Wrong = CommandFound.Refused UnexpectedModel
+
 -- (ARG SORT)
 module _ (ws : List ℕ) (size offset first sort body : ℕ) (w : Word) (h : WordAt ws first w) where
-  pub argument-none : w ≡ Word.NoSymbol → ArgumentAt ws size offset first sort body CommandFound.Misshapen
-  argument-none e ts name x a t b r s p q = not-symbol x _ _ (not-word ws first w h ts e x (first-of ws ts x (cons a nil) first 2 s))
+  pub argument-none : w ≡ Word.NoSymbol → ArgumentAt ws size offset first sort body Wrong
+  argument-none e ts name x a t b r s p q = (not-symbol x _ _ (not-word ws first w h ts e x (first-of ws ts x (cons a nil) first 2 s)), refl)
 
   pub argument-word : (long off : ℕ) → w ≡ Word.Symbol long off → (second : ℕ) → second ≡ afterAt ws first →
       ArgumentAt ws size offset first sort body (CommandFound.Function size offset long off second sort body)
@@ -38,10 +42,10 @@ module _ (ws : List ℕ) (size offset first many sort body : ℕ) where
   arguments-none z ts name nil t b r s p q = (name, t, b, refl, r, p, q)
   arguments-none z ts name (cons a us) t b r s p q = let c = s .many-are in absurd (omega arith)
 
-  pub arguments-many : (many ≡ 0 → ⊥) → (many ≡ 1 → ⊥) → ArgumentsAt ws size offset first many sort body CommandFound.Misshapen
+  pub arguments-many : (many ≡ 0 → ⊥) → (many ≡ 1 → ⊥) → ArgumentsAt ws size offset first many sort body Wrong
   arguments-many z o ts name nil t b r s p q = absurd (z (s .many-are))
   arguments-many z o ts name (cons a nil) t b r s p q = absurd (o (s .many-are))
-  arguments-many z o ts name (cons a (cons c us)) t b r s p q = refl
+  arguments-many z o ts name (cons a (cons c us)) t b r s p q = (refl, refl)
 
   module _ (one : many ≡ 1) where
     -- it is enough to look at one tree
@@ -53,8 +57,8 @@ module _ (ws : List ℕ) (size offset first many sort body : ℕ) where
     by-one f k ts name (cons a (cons c us)) t b r s p q = let c = s .many-are in absurd (omega arith)
 
     module _ (l : Parts) (h : PartsAt ws first l) where
-      pub arguments-atom : l ≡ Parts.NoList → ArgumentsAt ws size offset first many sort body CommandFound.Misshapen
-      arguments-atom e = by-one CommandFound.Misshapen (λ ts name a t b r s p q. not-app a _ _ (not-list ws first l h e ts a s))
+      pub arguments-atom : l ≡ Parts.NoList → ArgumentsAt ws size offset first many sort body Wrong
+      arguments-atom e = by-one Wrong (λ ts name a t b r s p q. (not-app a _ _ (not-list ws first l h e ts a s), refl))
 
       module _ (inside : ℕ) (e : l ≡ Parts.Children inside) where
         not-two : (ts name : List ℕ) (us : Trees) (t b : Tree) → (inside ≡ 2 → ⊥) → StandingAll us ws ts (first + 1) inside → argument name us t b ≡ misshapen
@@ -63,10 +67,10 @@ module _ (ws : List ℕ) (size offset first many sort body : ℕ) where
         not-two ts name (cons x (cons a nil)) t b z s = absurd (z (s .many-are))
         not-two ts name (cons x (cons a (cons u us))) t b z s = refl
 
-        pub arguments-parts : (inside ≡ 2 → ⊥) → ArgumentsAt ws size offset first many sort body CommandFound.Misshapen
+        pub arguments-parts : (inside ≡ 2 → ⊥) → ArgumentsAt ws size offset first many sort body Wrong
         arguments-parts z =
-            by-one CommandFound.Misshapen
-            (λ ts name a t b r s p q. by-list ws first l h inside e ts (λ (x : Tree). arguments name (cons x nil) t b ≡ misshapen) (λ us g. not-two ts name us t b z g) a s)
+            by-one Wrong
+            (λ ts name a t b r s p q. (by-list ws first l h inside e ts (λ (x : Tree). arguments name (cons x nil) t b ≡ misshapen) (λ us g. not-two ts name us t b z g) a s, refl))
 
         pub arguments-argument : inside ≡ 2 → (f : CommandFound) → ArgumentAt ws size offset (first + 1) sort body f → ArgumentsAt ws size offset first many sort body f
         arguments-argument z f k =
@@ -85,8 +89,8 @@ module _ (ws ts : List ℕ) (first : ℕ) where
   All a b c d e = cons a (cons b (cons c (cons d (cons e nil))))
 
   module _ (w : Word) (h : WordAt ws first w) where
-    pub five-none : w ≡ Word.NoSymbol → FiveAt ws ts first CommandFound.Misshapen
-    five-none q a b c d e s = not-symbol a _ _ (not-word ws first w h ts q a (first-of ws ts a (cons b (cons c (cons d (cons e nil)))) first 5 s))
+    pub five-none : w ≡ Word.NoSymbol → FiveAt ws ts first Wrong
+    five-none q a b c d e s = (not-symbol a _ _ (not-word ws first w h ts q a (first-of ws ts a (cons b (cons c (cons d (cons e nil)))) first 5 s)), refl)
 
     module _ (long off : ℕ) (q : w ≡ Word.Symbol long off) (second : ℕ) (here : second ≡ afterAt ws first) where
       -- as for a word, and the four parts behind it
@@ -99,10 +103,10 @@ module _ (ws ts : List ℕ) (first : ℕ) where
           (λ word r. k word b c d e r o) a (first-of ws ts a (cons b (cons c (cons d (cons e nil)))) first 5 s)
 
       module _ (v : Word) (m : WordAt ws second v) where
-        pub five-unnamed : v ≡ Word.NoSymbol → FiveAt ws ts first CommandFound.Misshapen
+        pub five-unnamed : v ≡ Word.NoSymbol → FiveAt ws ts first Wrong
         five-unnamed z =
-            by-first CommandFound.Misshapen
-            (λ word b c d e r s. not-symbol b _ _ (not-word ws second v m ts z b (first-of ws ts b (cons c (cons d (cons e nil))) second 4 s)))
+            by-first Wrong
+            (λ word b c d e r s. (not-symbol b _ _ (not-word ws second v m ts z b (first-of ws ts b (cons c (cons d (cons e nil))) second 4 s)), refl))
 
         module _ (size offset : ℕ) (z : v ≡ Word.Symbol size offset) (third : ℕ) (there : third ≡ afterAt ws second) where
           by-name : (f : CommandFound) →
@@ -115,10 +119,10 @@ module _ (ws ts : List ℕ) (first : ℕ) where
               (λ name g. k word name c d e r g (others-of ws ts b (cons c (cons d (cons e nil))) second 4 s third 3 there refl)) b (first-of ws ts b (cons c (cons d (cons e nil))) second 4 s))
 
           module _ (l : Parts) (n : PartsAt ws third l) where
-            pub five-atom : l ≡ Parts.NoList → FiveAt ws ts first CommandFound.Misshapen
+            pub five-atom : l ≡ Parts.NoList → FiveAt ws ts first Wrong
             five-atom y =
-                by-name CommandFound.Misshapen
-                (λ word name c d e r g s. not-app c _ _ (not-list ws third l n y ts c (first-of ws ts c (cons d (cons e nil)) third 3 s)))
+                by-name Wrong
+                (λ word name c d e r g s. (not-app c _ _ (not-list ws third l n y ts c (first-of ws ts c (cons d (cons e nil)) third 3 s)), refl))
 
             module _ (many : ℕ) (y : l ≡ Parts.Children many) where
               by-arguments : (f : CommandFound) →
@@ -131,8 +135,8 @@ module _ (ws ts : List ℕ) (first : ℕ) where
                   (λ word name c d e r g s. by-list ws third l n many y ts (λ (x : Tree). CommandShows ws ts f (parts (All (symbol word) (symbol name) x d e)))
                   (λ us o. k word name us d e r g o (λ fourth u. others-of ws ts c (cons d (cons e nil)) third 3 s fourth 2 u refl)) c (first-of ws ts c (cons d (cons e nil)) third 3 s))
 
-              pub five-other : textIs ts off long (bytes "define-fun") ≡ false → FiveAt ws ts first CommandFound.Misshapen
-              five-other t = by-arguments CommandFound.Misshapen (λ word name us d e r g s o. rw (said-so ts off long word r (bytes "define-fun") false t))
+              pub five-other : textIs ts off long (bytes "define-fun") ≡ false → FiveAt ws ts first Wrong
+              five-other t = by-arguments Wrong (λ word name us d e r g s o. (rw (said-so ts off long word r (bytes "define-fun") false t), refl))
 
               pub five-arguments : textIs ts off long (bytes "define-fun") ≡ true → (sort : ℕ) → sort ≡ afterAt ws third → (body : ℕ) → body ≡ afterAt ws sort →
                   (f : CommandFound) → ArgumentsAt ws size offset (third + 1) many sort body f → FiveAt ws ts first f
@@ -146,9 +150,9 @@ module _ (ws ts : List ℕ) (first : ℕ) where
 
 -- the whole
 module _ (ws ts : List ℕ) (i : ℕ) (l : Parts) (h : PartsAt ws i l) where
-  pub command-atom : l ≡ Parts.NoList → CommandAt ws ts i CommandFound.Misshapen
+  pub command-atom : l ≡ Parts.NoList → CommandAt ws ts i Wrong
   unfolding command
-  command-atom e t s = not-app t _ _ (not-list ws i l h e ts t s)
+  command-atom e t s = (not-app t _ _ (not-list ws i l h e ts t s), refl)
 
   module _ (many : ℕ) (e : l ≡ Parts.Children many) where
     not-five : (us : Trees) → (many ≡ 5 → ⊥) → StandingAll us ws ts (i + 1) many → parts us ≡ misshapen
@@ -160,9 +164,9 @@ module _ (ws ts : List ℕ) (i : ℕ) (l : Parts) (h : PartsAt ws i l) where
     not-five (cons a (cons b (cons c (cons d (cons f nil))))) z s = absurd (z (s .many-are))
     not-five (cons a (cons b (cons c (cons d (cons f (cons g us)))))) z s = refl
 
-    pub command-parts : (many ≡ 5 → ⊥) → CommandAt ws ts i CommandFound.Misshapen
+    pub command-parts : (many ≡ 5 → ⊥) → CommandAt ws ts i Wrong
     unfolding command
-    command-parts z t s = by-list ws i l h many e ts (λ (x : Tree). command x ≡ misshapen) (λ us g. not-five us z g) t s
+    command-parts z t s = (by-list ws i l h many e ts (λ (x : Tree). command x ≡ misshapen) (λ us g. not-five us z g) t s, refl)
 
     all-five : (f : CommandFound) (us : Trees) → many ≡ 5 → FiveAt ws ts (i + 1) f → StandingAll us ws ts (i + 1) many → CommandShows ws ts f (parts us)
     all-five f nil z k s = let c = s .many-are in absurd (omega arith)

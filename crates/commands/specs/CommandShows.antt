@@ -1,7 +1,8 @@
--- Document 01, "The model walk": what a command found in the arena says of the tree that stands there.
+-- Document 01, "The model walk": what a command found in the arena says of the tree that stands there; any other shape is 13.
 use mathlib.Core.Path.{_≡_}
 use mathlib.Core.List.{List}
 use Prim.Native.Nat.{ℕ}
+use Rattle.refusals.specs.declared.Refusal.the-variants.{UnexpectedModel}
 use Rattle.arena.specs.Tree.{Tree, Trees, nil, cons}
 use Rattle.shapes.specs.Shows.{Standing, StandingAll, Reads}
 use Rattle.commands.specs.declared.command.CommandFound.{CommandFound}
@@ -13,7 +14,7 @@ CommandShows ws ts (CommandFound.Variable size offset sort value) s =
 CommandShows ws ts (CommandFound.Function size offset argSize argOffset argSort sort body) s =
     (name : List ℕ) × (x : List ℕ) × (a : Tree) × (t : Tree) × (b : Tree) × (s ≡ function name x a t b)
     × Reads name ts offset size × Reads x ts argOffset argSize × Standing a ws ts argSort × Standing t ws ts sort × Standing b ws ts body
-CommandShows ws ts CommandFound.Misshapen s = s ≡ misshapen
+CommandShows ws ts (CommandFound.Refused why) s = (s ≡ misshapen) × (why ≡ UnexpectedModel)
 
 abbrev pub CommandAt : List ℕ → List ℕ → ℕ → CommandFound → Type 0
 CommandAt ws ts i r = (t : Tree) → Standing t ws ts i → CommandShows ws ts r (command t)

@@ -29,10 +29,10 @@ pub fn link_at(nodes: &[u64], text: &[u8], at: usize) -> LinkFound
     }
     let head = at + 1;
     let word = symbol_at(nodes, head);
-    let Word::Symbol { length, offset } = word else {
+    let Word::Symbol { size, offset } = word else {
         return LinkFound::Default;
     };
-    if text_is(text, offset, length, b"ite") {
+    if text_is(text, offset, size, b"ite") {
         let test = after(nodes, head);
         let value = after(nodes, test);
         let rest = after(nodes, value);

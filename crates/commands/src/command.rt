@@ -1,6 +1,7 @@
-// A command's parts are taken out one after the other; the first that is not there makes the command misshapen.
+// A command's parts are taken out one after the other; the first that is not there refuses the command.
 use arena::after;
 use arena::text_is;
+use refusals::Refusal;
 use shapes::Parts;
 use shapes::Word;
 use shapes::list_at;
@@ -10,13 +11,13 @@ ghost use Rattle.commands.specs.CommandShows.{CommandAt, FiveAt, Argumen
 // A command, with its names' texts and the nodes of its other parts.
 pub enum CommandFound {
     Variable {
-        length: u64,
+        size: u64,
         offset: u64,
         sort: usize,
         value: usize,
     },
     Function {
-        length: u64,
+        size: u64,
         offset: u64,
         arg_length: u64,
         arg_offset: u64,
@@ -24,31 +25,31 @@ pub enum CommandFound {
         sort: usize,
         body: usize,
     },
-    Misshapen,
+    Refused(Refusal),
 }
 
 // (ARG SORT), its two parts from a node on; the name's text, the sort and the body are known.
 fn argument(
     nodes: &[u64],
-    length: u64,
+    size: u64,
     offset: u64,
     first: usize,
     sort: usize,
     body: usize,
 ) -> CommandFound
-    ensures { λ r. ⌜ ArgumentAt (now (nodes .entry)) length offset first sort body r ⌝ }
+    ensures { λ r. ⌜ ArgumentAt (now (nodes .entry)) size offset first sort body r ⌝ }
 {
     let word = symbol_at(nodes, first);
     let Word::Symbol {
-        length: arg_length,
+        size: arg_length,
         offset: arg_offset,
     } = word
     else {
-        return CommandFound::Misshapen;
+        return CommandFound::Refused(Refusal::UnexpectedModel);
     };
     let arg_sort = after(nodes, first);
     CommandFound::Function {
-        length,
+        size,
         offset,
         arg_length,
         arg_offset,
@@ -61,34 +62,34 @@ fn argument(
 // () or ((ARG SORT)), so many parts from a node on.
 fn arguments(
     nodes: &[u64],
-    length: u64,
+    size: u64,
     offset: u64,
     first: usize,
     count: u64,
     sort: usize,
     body: usize,
 ) -> CommandFound
-    ensures { λ r. ⌜ ArgumentsAt (now (nodes .entry)) length offset first count sort body r ⌝ }
+    ensures { λ r. ⌜ ArgumentsAt (now (nodes .entry)) size offset first count sort body r ⌝ }
 {
     if count == 0 {
         return CommandFound::Variable {
-            length,
+            size,
             offset,
             sort,
             value: body,
         };
     }
     if count != 1 {
-        return CommandFound::Misshapen;
+        return CommandFound::Refused(Refusal::UnexpectedModel);
     }
     let list = list_at(nodes, first);
     let Parts::Children(parts) = list else {
-        return CommandFound::Misshapen;
+        return CommandFound::Refused(Refusal::UnexpectedModel);
     };
     if parts != 2 {
-        return CommandFound::Misshapen;
+        return CommandFound::Refused(Refusal::UnexpectedModel);
     }
-    argument(nodes, length, offset, first + 1, sort, body)
+    argument(nodes, size, offset, first + 1, sort, body)
 }
 
 // The five parts of a command from a node on.
@@ -97,28 +98,28 @@ fn five(nodes: &[u64], text: &[u8], first: usize) -> CommandFound
 {
     let word = symbol_at(nodes, first);
     let Word::Symbol {
-        length: long,
+        size: long,
         offset: off,
     } = word
     else {
-        return CommandFound::Misshapen;
+        return CommandFound::Refused(Refusal::UnexpectedModel);
     };
     let second = after(nodes, first);
     let name = symbol_at(nodes, second);
-    let Word::Symbol { length, offset } = name else {
-        return CommandFound::Misshapen;
+    let Word::Symbol { size, offset } = name else {
+        return CommandFound::Refused(Refusal::UnexpectedModel);
     };
     let third = after(nodes, second);
     let list = list_at(nodes, third);
     let Parts::Children(count) = list else {
-        return CommandFound::Misshapen;
+        return CommandFound::Refused(Refusal::UnexpectedModel);
     };
     if text_is(text, off, long, b"define-fun") {
         let sort = after(nodes, third);
         let body = after(nodes, sort);
-        return arguments(nodes, length, offset, third + 1, count, sort, body);
+        return arguments(nodes, size, offset, third + 1, count, sort, body);
     }
-    CommandFound::Misshapen
+    CommandFound::Refused(Refusal::UnexpectedModel)
 }
 
 // The command at a node.
@@ -127,10 +128,10 @@ pub fn command_at(nodes: &[u64], text: &[u8], at: usize) -> CommandFound
 {
     let list = list_at(nodes, at);
     let Parts::Children(count) = list else {
-        return CommandFound::Misshapen;
+        return CommandFound::Refused(Refusal::UnexpectedModel);
     };
     if count != 5 {
-        return CommandFound::Misshapen;
+        return CommandFound::Refused(Refusal::UnexpectedModel);
     }
     five(nodes, text, at + 1)
 }

@@ -32,10 +32,10 @@ pub fn tests_at(nodes: &[u64], text: &[u8], at: usize) -> TestsFound
     }
     let head = at + 1;
     let word = symbol_at(nodes, head);
-    let Word::Symbol { length, offset } = word else {
+    let Word::Symbol { size, offset } = word else {
         return TestsFound::NoTests;
     };
-    if text_is(text, offset, length, b"or") {
+    if text_is(text, offset, size, b"or") {
         let first = after(nodes, head);
         return TestsFound::Tests {
             first,
@@ -46,18 +46,18 @@ pub fn tests_at(nodes: &[u64], text: &[u8], at: usize) -> TestsFound
 }
 
 // Whether the argument's name, whose text is told, stands at the node; bars are bytes like others.
-fn is_argument(nodes: &[u64], text: &[u8], at: usize, offset: u64, length: u64) -> bool
-    ensures { λ r. ⌜ ArgumentIs (now (nodes .entry)) (now (text .entry)) at offset length r ⌝ }
+fn is_argument(nodes: &[u64], text: &[u8], at: usize, offset: u64, size: u64) -> bool
+    ensures { λ r. ⌜ ArgumentIs (now (nodes .entry)) (now (text .entry)) at offset size r ⌝ }
 {
     let word = symbol_at(nodes, at);
     let Word::Symbol {
-        length: long,
+        size: long,
         offset: off,
     } = word
     else {
         return false;
     };
-    let range = clamp(offset, length, text.len());
+    let range = clamp(offset, size, text.len());
     let start = range.start;
     let end = range.end;
     text_is(text, off, long, &text[start..end])
@@ -76,10 +76,10 @@ pub fn key_at(nodes: &[u64], text: &[u8], at: usize, arg_offset: u64, arg_length
     }
     let head = at + 1;
     let word = symbol_at(nodes, head);
-    let Word::Symbol { length, offset } = word else {
+    let Word::Symbol { size, offset } = word else {
         return KeyFound::NoKey;
     };
-    if text_is(text, offset, length, b"=") {
+    if text_is(text, offset, size, b"=") {
         let left = after(nodes, head);
         let right = after(nodes, left);
         if is_argument(nodes, text, left, arg_offset, arg_length) {

@@ -28,18 +28,18 @@ module _ (a : Literal) (wanted : ℕ) where
   abbrev Of : Result Lit → Result Value
   Of m = m >>= λ l. unless (eqb (l .row) wanted) UnmatchedType (ok (l .value))
 
-  module _ (row long : ℕ) (set : Bool) (e : a ≡ Literal.Value row long set) where
+  module _ (row long : ℕ) (isSet : Bool) (e : a ≡ Literal.Value row long isSet) where
     pub value-other : (row ≡ wanted → ⊥) → ValueOf a wanted (Measured.Refused UnmatchedType)
     unfolding _>>=_ unless
     value-other d m h =
-        let w = value-told m a row long set e h in
+        let w = value-told m a row long isSet e h in
         let g : eqb (w .one .row) wanted ≡ false = ne-eqb (w .one .row) wanted (λ z. d (w .sort ∙ z)) in
         sym (ap (λ (x : Result Lit). measured valueSize (Of x)) (w .read) ∙ ap (λ (b : Bool). measured valueSize (unless b UnmatchedType (ok (w .one .value)))) g)
 
     pub value-same : row ≡ wanted → ValueOf a wanted (Measured.Need long)
     unfolding _>>=_ unless
     value-same d m h =
-        let w = value-told m a row long set e h in
+        let w = value-told m a row long isSet e h in
         let g : eqb (w .one .row) wanted ≡ true = eq-eqb (w .one .row) wanted (sym (w .sort) ∙ d) in
         ap Measured.Need (w .size)
         ∙ sym (ap (λ (x : Result Lit). measured valueSize (Of x)) (w .read) ∙ ap (λ (b : Bool). measured valueSize (unless b UnmatchedType (ok (w .one .value)))) g)
@@ -63,24 +63,24 @@ module _ (a b : Literal) (argument result : ℕ) where
   unfolding _>>=_
   arm-first z e m k g h = sym (ap (λ (x : Result Lit). measured armSize (Both x k)) (refused-told m a z e g))
 
-  module _ (row long : ℕ) (set : Bool) (e : a ≡ Literal.Value row long set) where
+  module _ (row long : ℕ) (isSet : Bool) (e : a ≡ Literal.Value row long isSet) where
     pub arm-second : (z : Refusal) → b ≡ Literal.Refused z → ArmOf a b argument result (Measured.Refused z)
     unfolding _>>=_
     arm-second z f m k g h =
-        let w = value-told m a row long set e g in
+        let w = value-told m a row long isSet e g in
         sym (ap (λ (x : Result Lit). measured armSize (Both x k)) (w .read) ∙ ap (λ (x : Result Lit). measured armSize (Both (ok (w .one)) x)) (refused-told k b z f h))
 
     module _ (other more : ℕ) (also : Bool) (f : b ≡ Literal.Value other more also) where
       read-both : (m k : Result Lit) (g : a ≡ answer m) (h : b ≡ answer k) →
-          measured armSize (Both m k) ≡ measured armSize (Both (ok (value-told m a row long set e g .one)) (ok (value-told k b other more also f h .one)))
+          measured armSize (Both m k) ≡ measured armSize (Both (ok (value-told m a row long isSet e g .one)) (ok (value-told k b other more also f h .one)))
       read-both m k g h =
-          ap (λ (x : Result Lit). measured armSize (Both x k)) (value-told m a row long set e g .read)
-          ∙ ap (λ (x : Result Lit). measured armSize (Both (ok (value-told m a row long set e g .one)) x)) (value-told k b other more also f h .read)
+          ap (λ (x : Result Lit). measured armSize (Both x k)) (value-told m a row long isSet e g .read)
+          ∙ ap (λ (x : Result Lit). measured armSize (Both (ok (value-told m a row long isSet e g .one)) x)) (value-told k b other more also f h .read)
 
       pub arm-key : (row ≡ argument → ⊥) → ArmOf a b argument result (Measured.Refused UnmatchedType)
       unfolding _>>=_ unless
       arm-key d m k g h =
-          let w = value-told m a row long set e g in
+          let w = value-told m a row long isSet e g in
           let v = value-told k b other more also f h in
           let c : eqb (w .one .row) argument ≡ false = ne-eqb (w .one .row) argument (λ z. d (w .sort ∙ z)) in
           sym (read-both m k g h ∙ ap (λ (t : Bool). measured armSize (unless t UnmatchedType (unless (eqb (v .one .row) result) UnmatchedType (ok (armOf (w .one .value) (v .one .value)))))) c)
@@ -89,7 +89,7 @@ module _ (a b : Literal) (argument result : ℕ) where
         pub arm-value : (other ≡ result → ⊥) → ArmOf a b argument result (Measured.Refused UnmatchedType)
         unfolding _>>=_ unless
         arm-value d m k g h =
-            let w = value-told m a row long set e g in
+            let w = value-told m a row long isSet e g in
             let v = value-told k b other more also f h in
             let c : eqb (w .one .row) argument ≡ true = eq-eqb (w .one .row) argument (sym (w .sort) ∙ here) in
             let q : eqb (v .one .row) result ≡ false = ne-eqb (v .one .row) result (λ z. d (v .sort ∙ z)) in
@@ -100,7 +100,7 @@ module _ (a b : Literal) (argument result : ℕ) where
         pub arm-both : other ≡ result → (r : ℕ) → r ≡ capped (capped (long + more) + 12) → ArmOf a b argument result (Measured.Need r)
         unfolding _>>=_ unless
         arm-both d r i m k g h =
-            let w = value-told m a row long set e g in
+            let w = value-told m a row long isSet e g in
             let v = value-told k b other more also f h in
             let c : eqb (w .one .row) argument ≡ true = eq-eqb (w .one .row) argument (sym (w .sort) ∙ here) in
             let q : eqb (v .one .row) result ≡ true = eq-eqb (v .one .row) result (sym (v .sort) ∙ d) in

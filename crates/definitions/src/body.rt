@@ -55,15 +55,15 @@ fn check_arm(
     nodes: &[u64],
     text: &[u8],
     offset: u64,
-    length: u64,
+    size: u64,
     argument: usize,
     result: usize,
     test: usize,
     value: usize,
 ) -> Measured
-    ensures { λ r. ⌜ ArmAt (now (sorts .entry)) (now (fields .entry)) (now (members .entry)) (now (names .entry)) (now (nodes .entry)) (now (text .entry)) offset length argument result test value r ⌝ }
+    ensures { λ r. ⌜ ArmAt (now (sorts .entry)) (now (fields .entry)) (now (members .entry)) (now (names .entry)) (now (nodes .entry)) (now (text .entry)) offset size argument result test value r ⌝ }
 {
-    let key = key_at(nodes, text, test, offset, length);
+    let key = key_at(nodes, text, test, offset, size);
     match key {
         KeyFound::Key(node) => {
             let first = decode_literal(
@@ -104,13 +104,13 @@ fn check_test(
     nodes: &[u64],
     text: &[u8],
     offset: u64,
-    length: u64,
+    size: u64,
     argument: usize,
     test: usize,
 ) -> Measured
-    ensures { λ r. ⌜ TestAt (now (sorts .entry)) (now (fields .entry)) (now (members .entry)) (now (names .entry)) (now (nodes .entry)) (now (text .entry)) offset length argument test r ⌝ }
+    ensures { λ r. ⌜ TestAt (now (sorts .entry)) (now (fields .entry)) (now (members .entry)) (now (names .entry)) (now (nodes .entry)) (now (text .entry)) offset size argument test r ⌝ }
 {
-    let key = key_at(nodes, text, test, offset, length);
+    let key = key_at(nodes, text, test, offset, size);
     match key {
         KeyFound::Key(node) => {
             let literal = decode_literal(
@@ -140,12 +140,12 @@ fn check_chain(
     nodes: &[u64],
     text: &[u8],
     offset: u64,
-    length: u64,
+    size: u64,
     argument: usize,
     result: usize,
     body: usize,
 ) -> Measured
-    ensures { λ r. ⌜ ChainAt (now (sorts .entry)) (now (fields .entry)) (now (members .entry)) (now (names .entry)) (now (nodes .entry)) (now (text .entry)) offset length argument result body r ⌝ }
+    ensures { λ r. ⌜ ChainAt (now (sorts .entry)) (now (fields .entry)) (now (members .entry)) (now (names .entry)) (now (nodes .entry)) (now (text .entry)) offset size argument result body r ⌝ }
 {
     let mut at = body;
     let mut total: usize = 0;
@@ -161,7 +161,7 @@ fn check_chain(
                     nodes,
                     text,
                     offset,
-                    length,
+                    size,
                     argument,
                     result,
                     test,
@@ -206,12 +206,12 @@ fn check_tests(
     nodes: &[u64],
     text: &[u8],
     offset: u64,
-    length: u64,
+    size: u64,
     argument: usize,
     first: usize,
     count: u64,
 ) -> Measured
-    ensures { λ r. ⌜ TestsOf (now (sorts .entry)) (now (fields .entry)) (now (members .entry)) (now (names .entry)) (now (nodes .entry)) (now (text .entry)) offset length argument first count r ⌝ }
+    ensures { λ r. ⌜ TestsOf (now (sorts .entry)) (now (fields .entry)) (now (members .entry)) (now (names .entry)) (now (nodes .entry)) (now (text .entry)) offset size argument first count r ⌝ }
 {
     let mut at = first;
     let mut total: usize = 0;
@@ -225,7 +225,7 @@ fn check_tests(
             nodes,
             text,
             offset,
-            length,
+            size,
             argument,
             at,
         );
@@ -270,12 +270,12 @@ pub fn check_body(
     nodes: &[u64],
     text: &[u8],
     offset: u64,
-    length: u64,
+    size: u64,
     argument: usize,
     result: usize,
     body: usize,
 ) -> Measured
-    ensures { λ r. ⌜ BodyAt (now (sorts .entry)) (now (fields .entry)) (now (members .entry)) (now (names .entry)) (now (nodes .entry)) (now (text .entry)) offset length argument result body r ⌝ }
+    ensures { λ r. ⌜ BodyAt (now (sorts .entry)) (now (fields .entry)) (now (members .entry)) (now (names .entry)) (now (nodes .entry)) (now (text .entry)) offset size argument result body r ⌝ }
 {
     let tests = tests_at(nodes, text, body);
     match tests {
@@ -290,7 +290,7 @@ pub fn check_body(
                     nodes,
                     text,
                     offset,
-                    length,
+                    size,
                     argument,
                     first,
                     count,
@@ -306,7 +306,7 @@ pub fn check_body(
             nodes,
             text,
             offset,
-            length,
+            size,
             argument,
             result,
             body,

@@ -18,12 +18,12 @@ pub fn check_function(
     argument: usize,
     result: usize,
     offset: u64,
-    length: u64,
+    size: u64,
     arg_sort: usize,
     sort: usize,
     body: usize,
 ) -> Measured
-    ensures { λ r. ⌜ FunctionAt (now (sorts .entry)) (now (fields .entry)) (now (members .entry)) (now (names .entry)) (now (nodes .entry)) (now (text .entry)) argument result offset length «arg_sort» sort body r ⌝ }
+    ensures { λ r. ⌜ FunctionAt (now (sorts .entry)) (now (fields .entry)) (now (members .entry)) (now (names .entry)) (now (nodes .entry)) (now (text .entry)) argument result offset size «arg_sort» sort body r ⌝ }
 {
     let first = read_sort(sorts, names, nodes, text, arg_sort, LEVELS);
     match first {
@@ -45,7 +45,7 @@ pub fn check_function(
                         nodes,
                         text,
                         offset,
-                        length,
+                        size,
                         row,
                         other,
                         body,

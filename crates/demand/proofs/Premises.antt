@@ -24,7 +24,6 @@ use Rattle.shapes.specs.Shape.{shape}
 use Rattle.shapes.specs.SortShape.{sortShape}
 use Rattle.sorts.specs.Result.{Result, ok, refused, _>>=_, unless}
 use Rattle.sorts.specs.Sort.{readSort}
-use Rattle.values.specs.HasSort.{octets as octetsIn}
 use Rattle.values.specs.Normal.{normal}
 use Rattle.values.specs.Text.{text}
 use Rattle.values.specs.Value.{Value, vBool, vString, vEntity}
@@ -131,8 +130,8 @@ string-read : (lawful strings ≡ true) × (readModel strings (variable "String"
 unfolding lawful sortsRight all distinct any oneSymbol inSymbol classOf utf8 octets kept keptWords find at sameText sortRow variableRow shape sortShape _>>=_ unless readSort read command readCommands readModel
 string-read = (refl, refl)
 
-string-unsorted : Sorted strings 0 (vString (256 ∷ [])) → ⊥
-unfolding octetsIn all
+string-unsorted : Sorted strings 0 (vString (0xFF ∷ [])) → ⊥
+unfolding octets utf8
 string-unsorted h = true≢false (sym (h .1))
 
 -- tables, a model, its reading and the premises on its one body, all at once
@@ -157,5 +156,5 @@ unfolding lawful sortsRight all distinct any find at oneSymbol inSymbol classOf 
 met = (refl, refl, refl, refl)
 
 met-octets : Octets model
-unfolding octetsIn all
+unfolding octets utf8
 met-octets = ((tt, (tt, (((tt, (tt, tt)), tt), (tt, ((tt, ((tt, (tt, (tt, tt))), (tt, ((tt, (refl, tt)), tt)))), tt))))), tt)

@@ -26,19 +26,19 @@ pub same-value : (row a b : ℕ) (s t : Bool) → a ≡ b → s ≡ t → Litera
 same-value row a b s t e g = rw (e, g)
 
 -- an answer tells what was read
-pub record Told (m : Result Lit) (row long : ℕ) (set : Bool) : Type 0 where
+pub record Told (m : Result Lit) (row long : ℕ) (isSet : Bool) : Type 0 where
   pub one : Lit
   pub read : m ≡ ok one
   pub sort : row ≡ one .row
   pub size : long ≡ need (one .value)
-  pub holds : set ≡ some? (held (one .value))
+  pub holds : isSet ≡ some? (held (one .value))
 
-pub value-told : (m : Result Lit) (a : Literal) (row long : ℕ) (set : Bool) → a ≡ Literal.Value row long set → a ≡ answer m → Told m row long set
-value-told (ok k) a row long set g h =
-    let z : _≡_ {A = Literal} (Literal.Value row long set) (Literal.Value (k .row) (need (k .value)) (some? (held (k .value)))) = sym g ∙ h in
+pub value-told : (m : Result Lit) (a : Literal) (row long : ℕ) (isSet : Bool) → a ≡ Literal.Value row long isSet → a ≡ answer m → Told m row long isSet
+value-told (ok k) a row long isSet g h =
+    let z : _≡_ {A = Literal} (Literal.Value row long isSet) (Literal.Value (k .row) (need (k .value)) (some? (held (k .value)))) = sym g ∙ h in
     record { one = k; read = refl; sort = cc; size = cc; holds = cc }
-value-told (refused e) a row long set g h =
-    let z : _≡_ {A = Literal} (Literal.Value row long set) (Literal.Refused e) = sym g ∙ h in
+value-told (refused e) a row long isSet g h =
+    let z : _≡_ {A = Literal} (Literal.Value row long isSet) (Literal.Refused e) = sym g ∙ h in
     let y : _≡_ {A = ℕ} 0 1 = cc in
     absurd (omega arith)
 
@@ -53,14 +53,14 @@ refused-told (refused f) a e g h =
     ap refused y
 
 -- a value of a sort without a name
-module _ (sorts : List ℕ) (wanted : Wanted) (long : ℕ) (set : Bool) (q : Sorted) (h : RowOf sorts wanted q) where
-  pub value-row : (row : ℕ) → q ≡ Sorted.Row row → ValueOf sorts wanted long set (Literal.Value row long set)
+module _ (sorts : List ℕ) (wanted : Wanted) (long : ℕ) (isSet : Bool) (q : Sorted) (h : RowOf sorts wanted q) where
+  pub value-row : (row : ℕ) → q ≡ Sorted.Row row → ValueOf sorts wanted long isSet (Literal.Value row long isSet)
   unfolding _>>=_
   value-row row e l s v n k =
       let w : rowOf (tablesOf l) (sortWanted wanted) ≡ ok row = read-row (rowOf (tablesOf l) (sortWanted wanted)) q row (h l s) e in
-      same-value row long (need v) set (some? (held v)) n k ∙ sym (ap (λ (m : Result ℕ). answer (m >>= λ i. ok (lit i v))) w)
+      same-value row long (need v) isSet (some? (held v)) n k ∙ sym (ap (λ (m : Result ℕ). answer (m >>= λ i. ok (lit i v))) w)
 
-  pub value-refused : (z : Refusal) → q ≡ Sorted.Refused z → ValueOf sorts wanted long set (Literal.Refused z)
+  pub value-refused : (z : Refusal) → q ≡ Sorted.Refused z → ValueOf sorts wanted long isSet (Literal.Refused z)
   unfolding _>>=_
   value-refused z e l s v n k =
       let w : rowOf (tablesOf l) (sortWanted wanted) ≡ refused z = read-refused (rowOf (tablesOf l) (sortWanted wanted)) q z (h l s) e in
@@ -71,19 +71,19 @@ abbrev asked : ℕ → Lit → Result Lit
 asked row k = unless (eqb (k .row) row) UnmatchedType (ok k)
 
 module _ (a : Literal) (wanted : ℕ) where
-  module _ (row long : ℕ) (set : Bool) (e : a ≡ Literal.Value row long set) where
+  module _ (row long : ℕ) (isSet : Bool) (e : a ≡ Literal.Value row long isSet) where
     pub match-other : (row ≡ wanted → ⊥) → Matches a wanted (Literal.Refused UnmatchedType)
     unfolding _>>=_ unless
     match-other d m h =
-        let w = value-told m a row long set e h in
+        let w = value-told m a row long isSet e h in
         let g : eqb (w .one .row) wanted ≡ false = ne-eqb (w .one .row) wanted (λ z. d (w .sort ∙ z)) in
         sym (ap (λ (x : Result Lit). answer (x >>= λ k. asked wanted k)) (w .read)
         ∙ ap (λ (b : Bool). answer (unless b UnmatchedType (ok (w .one)))) g)
 
-    pub match-same : row ≡ wanted → Matches a wanted (Literal.Value row long set)
+    pub match-same : row ≡ wanted → Matches a wanted (Literal.Value row long isSet)
     unfolding _>>=_ unless
     match-same d m h =
-        let w = value-told m a row long set e h in
+        let w = value-told m a row long isSet e h in
         let g : eqb (w .one .row) wanted ≡ true = eq-eqb (w .one .row) wanted (sym (w .sort) ∙ d) in
         sym e ∙ h ∙ ap answer (w .read)
         ∙ sym (ap (λ (x : Result Lit). answer (x >>= λ k. asked wanted k)) (w .read)

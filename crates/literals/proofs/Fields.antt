@@ -15,7 +15,7 @@ use Rattle.literals.specs.declared.decode.Field.{Field}
 use Rattle.literals.specs.Answer.{capped}
 use Rattle.literals.specs.Field.{fieldAnswer, recordNeed}
 
-module _ (a : Literal) (row long wanted : ℕ) (set : Bool) (e : a ≡ Literal.Value row long set) where
+module _ (a : Literal) (row long wanted : ℕ) (isSet : Bool) (e : a ≡ Literal.Value row long isSet) where
   pub field-other : (row ≡ wanted → ⊥) → Field.Refused UnmatchedFieldType ≡ fieldAnswer a wanted
   field-other h = rw (e, ne-eqb row wanted h)
 

@@ -118,7 +118,7 @@ module _ (sorts : List ℕ) (expected : Expected) (form : Form) where
         ap (inSort l) e
         ∙ inner-missing (insideOf form (at (tablesOf l .sorts) row)) (found-none (insideOf form (at (tablesOf l .sorts) row)) q (inside l h) f)
 
--- none and the empty set, where the row is of the form
+-- none and the empty isSet, where the row is of the form
 bare-option : (row : ℕ) (o : Option ℕ) → bareAnswer Form.Option row (asFound o) ≡ answer (found InvalidOptionType o >>= λ q. ok (lit row vNone))
 unfolding _>>=_
 bare-option row none = refl
@@ -169,32 +169,32 @@ module _ (sorts : List ℕ) (a : Literal) (step : Then) where
   unfolding _>>=_
   finish-refused z e l h m g = sym (ap (after l step) (refused-told m a z e g))
 
-  module _ (row long : ℕ) (set : Bool) (e : a ≡ Literal.Value row long set) (n : ℕ) (r : Literal) where
+  module _ (row long : ℕ) (isSet : Bool) (e : a ≡ Literal.Value row long isSet) (n : ℕ) (r : Literal) where
     -- the step, on what was read
-    step-on : (l : Lent) (m : Result Lit) (x : Then) → step ≡ x → (w : Told m row long set) → answer (thenLit (tablesOf l) x (w .one)) ≡ after l step m
+    step-on : (l : Lent) (m : Result Lit) (x : Then) → step ≡ x → (w : Told m row long isSet) → answer (thenLit (tablesOf l) x (w .one)) ≡ after l step m
     unfolding _>>=_
     step-on l m x f w = sym (ap (after l step) (w .read) ∙ ap (λ (y : Then). answer (thenLit (tablesOf l) y (w .one))) f)
 
     -- some(a) of the literal's row
     some-value : n ≡ capped (long + 6) → ValueOf sorts (Wanted.Option row) n false r →
-        (l : Lent) → l .sorts ≡ sorts → (m : Result Lit) (w : Told m row long set) → r ≡ answer (someLit (tablesOf l) (w .one))
+        (l : Lent) → l .sorts ≡ sorts → (m : Result Lit) (w : Told m row long isSet) → r ≡ answer (someLit (tablesOf l) (w .one))
     some-value c k l h m w =
         k l h (vSome (w .one .value)) (need-more (w .one .value) (vSome (w .one .value)) n long 6 c (w .size) (length-some (w .one .value))) refl
         ∙ ap (λ (i : ℕ). answer (litOf (tablesOf l) (optionOf i) (vSome (w .one .value)))) (w .sort)
 
     pub finish-some : n ≡ capped (long + 6) → step ≡ Then.Some → ValueOf sorts (Wanted.Option row) n false r → Finishes sorts a step r
     finish-some c f k l h m g =
-        let w = value-told m a row long set e g in
+        let w = value-told m a row long isSet e g in
         some-value c k l h m w ∙ step-on l m Then.Some f w
 
     pub finish-as : n ≡ capped (long + 6) → (wanted : ℕ) → step ≡ Then.SomeAs wanted → ValueOf sorts (Wanted.Option row) n false r → (b : Literal) → Matches r wanted b → Finishes sorts a step b
     finish-as c wanted f k b t l h m g =
-        let w = value-told m a row long set e g in
+        let w = value-told m a row long isSet e g in
         t (someLit (tablesOf l) (w .one)) (some-value c k l h m w) ∙ step-on l m (Then.SomeAs wanted) f w
 
     pub finish-single : n ≡ capped (long + 2) → step ≡ Then.Singleton → ValueOf sorts (Wanted.Set row) n true r → Finishes sorts a step r
     finish-single c f k l h m g =
-        let w = value-told m a row long set e g in
+        let w = value-told m a row long isSet e g in
         k l h (vSet (vCons (w .one .value) vNil)) (need-single (w .one .value) n long c (w .size)) refl
         ∙ ap (λ (i : ℕ). answer (litOf (tablesOf l) (setOf i) (vSet (vCons (w .one .value) vNil)))) (w .sort)
         ∙ step-on l m Then.Singleton f w

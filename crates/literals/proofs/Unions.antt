@@ -16,7 +16,7 @@ use Rattle.literals.specs.Answer.{answer, need, some?}
 use Rattle.literals.specs.Parts.{UnionNeed, UnionOf}
 use Rattle.literals.proofs.Answers.{value-told, refused-told}
 
--- what a set holds
+-- what a isSet holds
 none-held : (o : Option Values) → some? o ≡ false → o ≡ none
 none-held none e = refl
 none-held (some vs) e = absurd (true≢false e)
@@ -56,15 +56,15 @@ module _ (l n : Lit) where
       unfolding unless _>>=_
       two-sets ws k = rw (e, g, k)
 
-module _ (row long other more : ℕ) (set another : Bool) where
+module _ (row long other more : ℕ) (isSet another : Bool) where
   abbrev Joins : Literal → Type 0
-  Joins r = UnionOf (Literal.Value row long set) (Literal.Value other more another) r
+  Joins r = UnionOf (Literal.Value row long isSet) (Literal.Value other more another) r
 
   -- both were read
-  joins-by : (r : Literal) → ((l n : Lit) → row ≡ l .row → other ≡ n .row → long ≡ need (l .value) → more ≡ need (n .value) → set ≡ some? (held (l .value)) → another ≡ some? (held (n .value)) → r ≡ answer (unionLit l n)) → Joins r
+  joins-by : (r : Literal) → ((l n : Lit) → row ≡ l .row → other ≡ n .row → long ≡ need (l .value) → more ≡ need (n .value) → isSet ≡ some? (held (l .value)) → another ≡ some? (held (n .value)) → r ≡ answer (unionLit l n)) → Joins r
   unfolding _>>=_
   joins-by r f m k h g =
-      let w = value-told m (Literal.Value row long set) row long set refl h in
+      let w = value-told m (Literal.Value row long isSet) row long isSet refl h in
       let x = value-told k (Literal.Value other more another) other more another refl g in
       f (w .one) (x .one) (w .sort) (x .sort) (w .size) (x .size) (w .holds) (x .holds)
       ∙ sym (ap (λ (y : Result Lit). answer (y >>= λ l. k >>= λ n. unionLit l n)) (w .read)
@@ -78,16 +78,16 @@ module _ (row long other more : ℕ) (set another : Bool) where
     one-row : (l n : Lit) → row ≡ l .row → other ≡ n .row → eqb (l .row) (n .row) ≡ true
     one-row l n i j = eq-eqb (l .row) (n .row) (sym i ∙ d ∙ j)
 
-    pub join-first : set ≡ false → Joins (Literal.Refused SetUnionNonLiterals)
+    pub join-first : isSet ≡ false → Joins (Literal.Refused SetUnionNonLiterals)
     join-first s = joins-by (Literal.Refused SetUnionNonLiterals) (λ l n i j a b c e.
         sym (ap answer (first-other l n (one-row l n i j) (none-held (held (l .value)) (sym c ∙ s)))))
 
-    pub join-second : set ≡ true → another ≡ false → Joins (Literal.Refused SetUnionNonLiterals)
+    pub join-second : isSet ≡ true → another ≡ false → Joins (Literal.Refused SetUnionNonLiterals)
     join-second s t = joins-by (Literal.Refused SetUnionNonLiterals) (λ l n i j a b c e.
         let u = all-held (held (l .value)) (sym c ∙ s) in
         sym (ap answer (second-other l n (one-row l n i j) (u .0) (u .1) (none-held (held (n .value)) (sym e ∙ t)))))
 
-    pub join-sets : set ≡ true → another ≡ true → (size : ℕ) → UnionNeed long more size → Joins (Literal.Value row size true)
+    pub join-sets : isSet ≡ true → another ≡ true → (size : ℕ) → UnionNeed long more size → Joins (Literal.Value row size true)
     join-sets s t size f = joins-by (Literal.Value row size true) (λ l n i j a b c e.
         let u = all-held (held (l .value)) (sym c ∙ s) in
         let y = all-held (held (n .value)) (sym e ∙ t) in
@@ -103,13 +103,13 @@ module _ (a b : Literal) where
   unfolding _>>=_
   union-left z e m k h g = sym (ap (λ (x : Result Lit). answer (x >>= λ l. k >>= λ n. unionLit l n)) (refused-told m a z e h))
 
-  module _ (row long : ℕ) (set : Bool) (e : a ≡ Literal.Value row long set) where
+  module _ (row long : ℕ) (isSet : Bool) (e : a ≡ Literal.Value row long isSet) where
     pub union-right : (z : Refusal) → b ≡ Literal.Refused z → UnionOf a b (Literal.Refused z)
     unfolding _>>=_
     union-right z f m k h g =
-        let w = value-told m a row long set e h in
+        let w = value-told m a row long isSet e h in
         sym (ap (λ (x : Result Lit). answer (x >>= λ l. k >>= λ n. unionLit l n)) (w .read)
         ∙ ap (λ (x : Result Lit). answer (x >>= λ n. unionLit (w .one) n)) (refused-told k b z f g))
 
-    pub union-values : (other more : ℕ) (another : Bool) → b ≡ Literal.Value other more another → (r : Literal) → UnionOf (Literal.Value row long set) (Literal.Value other more another) r → UnionOf a b r
+    pub union-values : (other more : ℕ) (another : Bool) → b ≡ Literal.Value other more another → (r : Literal) → UnionOf (Literal.Value row long isSet) (Literal.Value other more another) r → UnionOf a b r
     union-values other more another f r u m k h g = u m k (sym e ∙ h) (sym f ∙ g)

@@ -11,7 +11,7 @@ ghost use Rattle.literals.specs.Answer.{capped, ValueOf};
 
 // The row of the sort, how long the text is with repeats kept, and whether it is a set.
 pub enum Literal {
-    Value { row: usize, need: usize, set: bool },
+    Value { row: usize, need: usize, is_set: bool },
     Refused(Refusal),
 }
 
@@ -29,20 +29,20 @@ pub fn plus(a: usize, b: usize) -> usize
 }
 
 // How long an entity's text is: `e`, its row, `:`, and two digits a byte.
-pub fn text_need(row: usize, length: usize) -> usize
-    ensures { λ r. ⌜ r ≡ capped (digitCount row + 2 * length + 2) ⌝ }
+pub fn text_need(row: usize, size: usize) -> usize
+    ensures { λ r. ⌜ r ≡ capped (digitCount row + 2 * size + 2) ⌝ }
 {
-    let twice = plus(length, length);
+    let twice = plus(size, size);
     plus(twice, digit_count(row as u64) + 2)
 }
 
 // A value of a sort without a name.
-pub fn value_of(sorts: &[u64], wanted: Wanted, need: usize, set: bool) -> Literal
-    ensures { λ r. ⌜ ValueOf (now (sorts .entry)) wanted need set r ⌝ }
+pub fn value_of(sorts: &[u64], wanted: Wanted, need: usize, is_set: bool) -> Literal
+    ensures { λ r. ⌜ ValueOf (now (sorts .entry)) wanted need «is_set» r ⌝ }
 {
     let sorted = row_of(sorts, wanted);
     match sorted {
-        Sorted::Row(row) => Literal::Value { row, need, set },
+        Sorted::Row(row) => Literal::Value { row, need, is_set },
         Sorted::Refused(refusal) => Literal::Refused(refusal),
     }
 }

@@ -38,7 +38,7 @@ fn field_of(literal: Literal, wanted: usize) -> Field
     ensures { λ r. ⌜ r ≡ fieldAnswer literal wanted ⌝ }
 {
     match literal {
-        Literal::Value { row, need, set: _ } => {
+        Literal::Value { row, need, is_set: _ } => {
             if row != wanted {
                 return Field::Refused(Refusal::UnmatchedFieldType);
             }
@@ -106,7 +106,7 @@ fn decode_fields(
     Literal::Value {
         row,
         need: record_need(row, total),
-        set: false,
+        is_set: false,
     }
 }
 

@@ -26,7 +26,7 @@ pub enum Expected {
     Row(usize),
 }
 
-// What is expected inside an option or a set, where the expected sort is one.
+// What is expected inside an option or a is_set, where the expected sort is one.
 pub enum Inside {
     Expect(Expected),
     Mismatch,
@@ -111,7 +111,7 @@ fn bare_none(row: usize, inside: Found) -> Literal
         Found::Row(_) => Literal::Value {
             row,
             need: 4,
-            set: false,
+            is_set: false,
         },
         Found::NoRow => Literal::Refused(Refusal::InvalidOptionType),
     }
@@ -124,7 +124,7 @@ fn bare_empty(row: usize, inside: Found) -> Literal
         Found::Row(_) => Literal::Value {
             row,
             need: 2,
-            set: true,
+            is_set: true,
         },
         Found::NoRow => Literal::Refused(Refusal::InvalidSetType),
     }
@@ -151,11 +151,11 @@ fn matched(literal: Literal, wanted: usize) -> Literal
     ensures { λ r. ⌜ Matches literal wanted r ⌝ }
 {
     match literal {
-        Literal::Value { row, need, set } => {
+        Literal::Value { row, need, is_set } => {
             if row != wanted {
                 return Literal::Refused(Refusal::UnmatchedType);
             }
-            Literal::Value { row, need, set }
+            Literal::Value { row, need, is_set }
         }
         Literal::Refused(refusal) => Literal::Refused(refusal),
     }
@@ -166,7 +166,7 @@ pub fn finish(sorts: &[u64], inner: Literal, then: Then) -> Literal
     ensures { λ r. ⌜ Finishes (now (sorts .entry)) inner «then» r ⌝ }
 {
     match inner {
-        Literal::Value { row, need, set: _ } => {
+        Literal::Value { row, need, is_set: _ } => {
             let inside = row as u64;
             match then {
                 Then::Some => value_of(sorts, Wanted::Option(inside), plus(need, 6), false),
@@ -195,19 +195,19 @@ fn union_need(a: usize, b: usize) -> usize
 }
 
 // Two literals of rows and needs, of which each is a set or not.
-fn joined(row: usize, need: usize, set: bool, other: usize, more: usize, another: bool) -> Literal
-    ensures { λ r. ⌜ UnionOf (Literal.Value row need set) (Literal.Value other more another) r ⌝ }
+fn joined(row: usize, need: usize, is_set: bool, other: usize, more: usize, another: bool) -> Literal
+    ensures { λ r. ⌜ UnionOf (Literal.Value row need «is_set») (Literal.Value other more another) r ⌝ }
 {
     if row != other {
         return Literal::Refused(Refusal::UnmatchedType);
     }
-    if set {
+    if is_set {
         if another {
             let need = union_need(need, more);
             return Literal::Value {
                 row,
                 need,
-                set: true,
+                is_set: true,
             };
         }
     }
@@ -219,12 +219,12 @@ pub fn union_of(left: Literal, right: Literal) -> Literal
     ensures { λ r. ⌜ UnionOf left right r ⌝ }
 {
     match left {
-        Literal::Value { row, need, set } => match right {
+        Literal::Value { row, need, is_set } => match right {
             Literal::Value {
                 row: other,
                 need: more,
-                set: another,
-            } => joined(row, need, set, other, more, another),
+                is_set: another,
+            } => joined(row, need, is_set, other, more, another),
             Literal::Refused(refusal) => Literal::Refused(refusal),
         },
         Literal::Refused(refusal) => Literal::Refused(refusal),

@@ -38,10 +38,10 @@ pub fn bits_of(sorts: &[u64], width: u64) -> Literal
 }
 
 // `s:`, and two digits a byte.
-pub fn string_of(sorts: &[u64], length: usize) -> Literal
-    ensures { λ r. ⌜ StringOf (now (sorts .entry)) length r ⌝ }
+pub fn string_of(sorts: &[u64], size: usize) -> Literal
+    ensures { λ r. ⌜ StringOf (now (sorts .entry)) size r ⌝ }
 {
-    let need = plus(plus(length, length), 2);
+    let need = plus(plus(size, size), 2);
     value_of(sorts, Wanted::String, need, false)
 }
 
@@ -74,7 +74,7 @@ fn member_of(members: &[u64], most: usize, row: usize) -> Literal
     Literal::Value {
         row: entity,
         need,
-        set: false,
+        is_set: false,
     }
 }
 
@@ -102,11 +102,11 @@ pub fn word_of(
     names: &[u8],
     text: &[u8],
     offset: u64,
-    length: u64,
+    size: u64,
 ) -> Literal
-    ensures { λ r. ⌜ WordOf (now (sorts .entry)) (now (members .entry)) (now (names .entry)) (textAt (now (text .entry)) offset length) r ⌝ }
+    ensures { λ r. ⌜ WordOf (now (sorts .entry)) (now (members .entry)) (now (names .entry)) (textAt (now (text .entry)) offset size) r ⌝ }
 {
-    let range = clamp(offset, length, text.len());
+    let range = clamp(offset, size, text.len());
     let start = range.start;
     let end = range.end;
     word_lit(sorts, members, names, &text[start..end])

@@ -61,13 +61,13 @@ pub fn indexed_of(
     sorts: &[u64],
     text: &[u8],
     offset: u64,
-    length: u64,
+    size: u64,
     low: u64,
     high: u64,
 ) -> Literal
-    ensures { λ r. ⌜ IndexedOf (now (sorts .entry)) (textAt (now (text .entry)) offset length) (low + high * 2 ^ 64) r ⌝ }
+    ensures { λ r. ⌜ IndexedOf (now (sorts .entry)) (textAt (now (text .entry)) offset size) (low + high * 2 ^ 64) r ⌝ }
 {
-    let range = clamp(offset, length, text.len());
+    let range = clamp(offset, size, text.len());
     let start = range.start;
     let end = range.end;
     let parsed = parse_number(&text[start..end]);

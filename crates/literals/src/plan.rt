@@ -62,13 +62,13 @@ fn entity_of(nodes: &[u64], row: usize, first: usize, count: u64) -> Literal
             high: _,
         } => Literal::Refused(Refusal::UnknownLiteral),
         Node::Numeral { low: _, high: _ } => Literal::Refused(Refusal::UnknownLiteral),
-        Node::String { length, offset: _ } => Literal::Value {
+        Node::String { size, offset: _ } => Literal::Value {
             row,
-            need: text_need(row, length as usize),
-            set: false,
+            need: text_need(row, size as usize),
+            is_set: false,
         },
         Node::Symbol {
-            length: _,
+            size: _,
             offset: _,
         } => Literal::Refused(Refusal::UnknownLiteral),
         Node::App {
@@ -223,20 +223,20 @@ fn plan_app(
         }
         Shape::Indexed {
             offset,
-            length,
+            size,
             low,
             high,
         } => {
-            let literal = indexed_of(sorts, text, offset, length, low, high);
+            let literal = indexed_of(sorts, text, offset, size, low, high);
             Plan::Done(literal)
         }
         Shape::Made {
             offset,
-            length,
+            size,
             first,
             count,
         } => {
-            let range = clamp(offset, length, text.len());
+            let range = clamp(offset, size, text.len());
             let start = range.start;
             let end = range.end;
             plan_made(sorts, most, names, nodes, &text[start..end], first, count)
@@ -270,12 +270,12 @@ pub fn plan_at(
             Plan::Done(literal)
         }
         Node::Numeral { low: _, high: _ } => Plan::Done(Literal::Refused(Refusal::UnknownLiteral)),
-        Node::String { length, offset: _ } => {
-            let literal = string_of(sorts, length as usize);
+        Node::String { size, offset: _ } => {
+            let literal = string_of(sorts, size as usize);
             Plan::Done(literal)
         }
-        Node::Symbol { length, offset } => {
-            let literal = word_of(sorts, members, names, text, offset, length);
+        Node::Symbol { size, offset } => {
+            let literal = word_of(sorts, members, names, text, offset, size);
             Plan::Done(literal)
         }
         Node::App {

@@ -171,7 +171,7 @@ second-shorter U D c n c′ l e f g =
     ∙ ap (λ (x : List ℕ). U ++ (take n G ++ x)) (take-append-drop n F)
     ∙ ap (λ (x : List ℕ). U ++ (x ++ F)) (take-all n G (omega arith))
 
-module _ (s₀ : List ℕ) (k : ℕ) (s : List ℕ) (lo c n : ℕ) (h : Turning s₀ k s lo c) (some : c ≡ 0 → ⊥) (more : length s - lo - c ≡ 0 → ⊥)
+module _ (s₀ : List ℕ) (k : ℕ) (s : List ℕ) (lo c n : ℕ) (h : Turning s₀ k s lo c) (nonzero : c ≡ 0 → ⊥) (more : length s - lo - c ≡ 0 → ⊥)
     (n-is : n ≡ min c (length s - lo - c)) where
   tail-is : take (length s - lo) (drop lo s) ≡ drop lo s
   tail-is = take-all (length s - lo) (drop lo s) (let l = length-drop lo s in omega arith)
@@ -185,7 +185,7 @@ module _ (s₀ : List ℕ) (k : ℕ) (s : List ℕ) (lo c n : ℕ) (h : Turning 
   turn-room = let f = fits-by (length s) lo c n (h .within) n-is in let a = h .within in let g = f .0 in omega arith
 
   pub turn-falls : length s₀ - (lo + n) < length s₀ - lo
-  turn-falls = subst (λ (x : ℕ). x - (lo + n) < x - lo) (h .long) (falls-by (length s) lo n (some-of n c (length s - lo - c) n-is some more) turn-room)
+  turn-falls = subst (λ (x : ℕ). x - (lo + n) < x - lo) (h .long) (falls-by (length s) lo n (some-of n c (length s - lo - c) n-is nonzero more) turn-room)
 
   pub turning-step : (T : List ℕ) (c′ : ℕ) → (c ≤ length s - lo - c → c′ ≡ c) × (length s - lo - c < c → c′ ≡ c - (length s - lo - c))
       → length T ≡ length (take (length s - lo) (drop lo s)) → Swapped (take (length s - lo) (drop lo s)) c n T → Turning s₀ k (putMid lo (length s - lo) s T) (lo + n) c′

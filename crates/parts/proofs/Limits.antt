@@ -10,7 +10,8 @@ use lib.ListN.{length}
 use borrow.Author.Tests.{lt-ltb}
 use Rattle.ground.specs.Lists.{any}
 use Rattle.ground.proofs.Tests.{by-order}
-use Rattle.parts.specs.Limit.{inputLimit, tooLong}
+use Rattle.refusals.specs.Limit.{inputLimit}
+use Rattle.parts.specs.Limit.{tooLong}
 
 pub none-long : tooLong [] ≡ false
 unfolding tooLong any

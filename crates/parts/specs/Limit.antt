@@ -4,10 +4,8 @@ use mathlib.Core.List.{List}
 use Prim.Native.Nat.{ℕ}
 use lib.Dec.{ltb}
 use lib.ListN.{length}
+use Rattle.refusals.specs.Limit.{inputLimit}
 use Rattle.ground.specs.Lists.{any}
-
-abbrev pub inputLimit : ℕ
-inputLimit = 16777216
 
 -- the bytes, or the ends, of one lent input are too many
 unfoldable pub tooLong : List (List ℕ) → Bool

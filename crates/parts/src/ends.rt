@@ -1,12 +1,11 @@
 // What is asked of lent inputs before a line is written.
+use refusals::INPUT_LIMIT;
 ghost use mathlib.Core.Path.{_≡_};
 ghost use mathlib.Core.Bool.{_||_};
 ghost use Prim.Native.Nat.{_+_, _-_, _*_, _≤_};
 ghost use lib.Dec.{ltb};
 ghost use Rattle.parts.specs.Parts.{risen, pairsRisen};
-ghost use Rattle.parts.specs.Limit.{inputLimit};
-
-const INPUT_LIMIT: usize = 16777216;
+ghost use Rattle.refusals.specs.Limit.{inputLimit};
 
 // Whether an input of this size is too long, or another one is.
 pub fn exceeds(size: usize, others: bool) -> bool

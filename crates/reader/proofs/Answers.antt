@@ -23,7 +23,8 @@ use Rattle.reader.specs.declared.read.Reading.{Reading}
 use Rattle.reader.specs.declared.read.Reading.the-variants.{Read, Refused}
 use Rattle.reader.specs.Tally.{tallied}
 use Rattle.reader.specs.Judge.{fit, byPhase, judged}
-use Rattle.reader.specs.Read.{inputLimit, outcome, parse, Left, refusing, written, fitted, settled, reading, Leaves}
+use Rattle.refusals.specs.Limit.{inputLimit}
+use Rattle.reader.specs.Read.{outcome, parse, Left, refusing, written, fitted, settled, reading, Leaves}
 use Rattle.reader.specs.Write.{Ready, Wrote}
 
 -- the room's tests, by their outcomes

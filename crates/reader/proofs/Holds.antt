@@ -23,7 +23,8 @@ use Rattle.tokens.specs.Piece.{Piece, space, token, wrong, pieceOf, Lexed, ok, 
 use Rattle.tokens.proofs.Lexes.{lex-nil, found-piece, lex-at, found-within, found-there}
 use Rattle.reader.specs.declared.tally.Tally.the-variants.{Scanned}
 use Rattle.reader.specs.Tally.{turned, Ample}
-use Rattle.reader.specs.Read.{outcome, parse, inputLimit}
+use Rattle.refusals.specs.Limit.{inputLimit}
+use Rattle.reader.specs.Read.{outcome, parse}
 use Rattle.reader.specs.Write.{Fine, pieceN, pieceT, pieceS, pieceC, Pieced, Ready, Wrote}
 use Rattle.reader.proofs.Sofar.{Sofar, sofar-start, sofar-step, ample, sofar-past}
 

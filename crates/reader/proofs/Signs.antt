@@ -50,7 +50,7 @@ less-one a p h =
 swap : (n m : ℕ) → n + m ≡ m + n
 swap n m = omega arith
 
-module _ (w n : ℕ) (some : 0 < w) (within : n < 2 ^ w) where
+module _ (w n : ℕ) (nonzero : 0 < w) (within : n < 2 ^ w) where
   record Held : Type 0 where
     pub fits : extended w n < 2 ^ 128
     pub lows : extended w n % 2 ^ w ≡ n
@@ -79,8 +79,8 @@ module _ (w n : ℕ) (some : 0 < w) (within : n < 2 ^ w) where
   held : n < 2 ^ 128 → Held
   held h =
       by-order w 128
-      (λ short. by-test (negative w n) (λ t. held-filled short (extended-negative w n some short t)) (λ t. held-plain h (extended-positive w n t)))
+      (λ short. by-test (negative w n) (λ t. held-filled short (extended-negative w n nonzero short t)) (λ t. held-plain h (extended-positive w n t)))
       (λ wide. held-plain h (extended-wide w n wide))
 
   pub extended-sound : n < 2 ^ 128 → w ≤ mostWidth → BitVector w (extended w n)
-  extended-sound h most = record { least = some; most = most; fits = held h .fits; sign = ap (extended w) (sym (held h .lows)) }
+  extended-sound h most = record { least = nonzero; most = most; fits = held h .fits; sign = ap (extended w) (sym (held h .lows)) }

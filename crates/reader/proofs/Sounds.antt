@@ -34,7 +34,8 @@ use Rattle.tokens.specs.declared.lexeme.Kind.the-variants as K
 use Rattle.tokens.specs.declared.lexeme.Lexeme.{Lexeme}
 use Rattle.tokens.specs.Lexeme.{afterQuote, afterHash, byClass, lexemeAt, inside}
 use Rattle.tokens.specs.Piece.{Piece, space, token, wrong, fromParsed, pieceOf, pieceAt, Lexed, ok, bad, emit, lexAfter, lex}
-use Rattle.reader.specs.Read.{inputLimit, parse}
+use Rattle.refusals.specs.Limit.{inputLimit}
+use Rattle.reader.specs.Read.{parse}
 use Rattle.reader.proofs.Signs.{binary-below, hexadecimal-below, extended-sound}
 use Rattle.reader.proofs.Bounds.{accepted-small}
 use Rattle.reader.proofs.Holds.{found, parse-is}

@@ -2,4 +2,5 @@ pub mod Tally
 pub mod Read
 pub mod Write
 pub mod Judge
+pub mod Rooms
 pub mod Samples

@@ -5,6 +5,7 @@ use mathlib.Core.List.{List, [], _++_}
 use Prim.Native.Nat.{ℕ, _*_, _/_}
 use lib.Dec.{leb}
 use lib.ListN.{length, drop, replicate}
+use Rattle.refusals.specs.Limit.{inputLimit}
 use Rattle.refusals.specs.declared.Refusal.{Refusal}
 use Rattle.refusals.specs.declared.Refusal.the-variants.{InputTooLong, NodeRoom, TextRoom, DepthRoom}
 use Rattle.arena.specs.Tree.{Tree, nodes, text, depth}
@@ -13,9 +14,6 @@ use Rattle.brackets.specs.Walk.{going, walk, Outcome, tree, refused, finish}
 use Rattle.tokens.specs.Piece.{Lexed, ok, bad, lex}
 use Rattle.reader.specs.declared.read.Reading.{Reading}
 use Rattle.reader.specs.declared.read.Reading.the-variants.{Read, Refused}
-
-abbrev pub inputLimit : ℕ
-inputLimit = 16777216
 
 -- the first lexical fault from the left comes before any fault of brackets
 abbrev pub outcome : Lexed → Outcome

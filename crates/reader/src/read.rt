@@ -5,6 +5,7 @@ use crate::write::write_tokens;
 use arena::STRIDE;
 use brackets::Phase;
 use brackets::Scan;
+use refusals::INPUT_LIMIT;
 use refusals::Refusal;
 ghost use mathlib.Core.Path.{_≡_};
 ghost use Prim.Native.Nat.{_/_};
@@ -20,8 +21,6 @@ pub enum Reading {
     },
     Refused(Refusal),
 }
-
-const INPUT_LIMIT: usize = 16777216;
 
 // Room for what a whole tree needs: 10, 11 and 12.
 fn judge_room(scan: Scan, nodes: usize, text: usize, depth: usize) -> Reading

@@ -6,6 +6,7 @@ use tokens::Sized;
 ghost use mathlib.Core.Path.{_≡_};
 ghost use Prim.Native.Nat.{_+_, _≤_, _<_, _^_};
 ghost use lib.ListN.{length};
+ghost use Rattle.refusals.specs.Limit.{inputLimit};
 ghost use Rattle.lexicon.specs.Class.{classes};
 ghost use Rattle.brackets.specs.Count.{start};
 ghost use Rattle.tokens.specs.Piece.{pieceOf, lex};
@@ -45,7 +46,7 @@ fn turn(scan: Scan, kind: Kind, content: &[u8]) -> Tally
 }
 
 pub fn count_tokens(table: &[u8; 256], s: &[u8]) -> Tally
-    requires { ⌜ (now table ≡ classes) × (length (now s) ≤ 16777216) ⌝ }
+    requires { ⌜ (now table ≡ classes) × (length (now s) ≤ inputLimit) ⌝ }
     ensures { λ r. ⌜ r ≡ tallied start (lex (now (s .entry))) ⌝ }
 {
     let mut scan = Scan::begin();

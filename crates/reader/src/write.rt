@@ -1,4 +1,8 @@
 // The second pass: every piece is written, where the first has found a tree and room for it.
+use arena::BIT_VEC;
+use arena::NUMERAL;
+use arena::STRING;
+use arena::SYMBOL;
 use brackets::Scan;
 use brackets::Words;
 use tokens::Kind;
@@ -12,7 +16,7 @@ ghost use Rattle.arena.specs.Layout.{nodeWords};
 ghost use Rattle.brackets.specs.Put.{FineOpen, FineClose};
 ghost use Rattle.tokens.specs.declared.lexeme.Kind.the-variants.{Bits, Number, Quoted, Name};
 ghost use Rattle.tokens.specs.Piece.{bitsOf, pieceOf};
-ghost use Rattle.reader.specs.Read.{inputLimit};
+ghost use Rattle.refusals.specs.Limit.{inputLimit};
 ghost use Rattle.reader.specs.Write.{FineNode, Noded, FineBracket, OpenedBy, ClosedBy, FineNumber, Fine, Numbered, Texted, Pieced, Ready, Wrote};
 
 // An atom's node; its text is written already.
@@ -46,7 +50,7 @@ fn write_bits(scan: Scan, radix: Radix, digits: &[u8], nodes: &mut [u64], stack:
     let width = digit_bits(radix) * digits.len() as u64;
     let full = number.sign_extend(width);
     let words = Words {
-        kind: 1,
+        kind: BIT_VEC,
         one: width,
         two: full.low,
         three: full.high,
@@ -63,7 +67,7 @@ fn write_numeral(scan: Scan, digits: &[u8], nodes: &mut [u64], stack: &[u64]) ->
         return scan;
     };
     let words = Words {
-        kind: 2,
+        kind: NUMERAL,
         one: 0,
         two: number.low,
         three: number.high,
@@ -85,7 +89,7 @@ fn write_string(
     let at = scan.text;
     let size = strings::write_text(inside, &mut text[at..]);
     let words = Words {
-        kind: 3,
+        kind: STRING,
         one: size as u64,
         two: at as u64,
         three: 0,
@@ -100,7 +104,7 @@ fn write_name(scan: Scan, name: &[u8], nodes: &mut [u64], text: &mut [u8], stack
     let at = scan.text;
     let size = lent::copy(name, &mut text[at..]);
     let words = Words {
-        kind: 4,
+        kind: SYMBOL,
         one: size as u64,
         two: at as u64,
         three: 0,

@@ -34,6 +34,9 @@ pub enum Refusal {
     SetUnionNonLiterals,
 }
 
+// Over so many bytes, or ends, of one lent input: 9.
+pub const INPUT_LIMIT: usize = 16777216;
+
 impl Refusal {
     pub fn number(self) -> u64
         ensures { λ r. ⌜ r ≡ numberOf self ⌝ }

@@ -2,6 +2,6 @@
 use Prim.Native.Nat.{ℕ, max, _≤_}
 
 -- from a place of so many bytes to a later one
-pub record Onward (length from to : ℕ) : Type 0 where
-  pub inside : to ≤ max from length
+pub record Onward (size from to : ℕ) : Type 0 where
+  pub inside : to ≤ max from size
   pub later : from ≤ to

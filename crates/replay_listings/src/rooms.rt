@@ -47,14 +47,14 @@ fn list_less(
     let words = room(kind, b'N', nodes.len());
     let bytes = room(kind, b'T', text.len());
     let depth = room(kind, b'S', stack.len());
-    let length = room(kind, b'O', out.len());
+    let size = room(kind, b'O', out.len());
     reply::list_in(
         tables,
         reply,
         &mut nodes[zero..words],
         &mut text[zero..bytes],
         &mut stack[zero..depth],
-        &mut out[zero..length],
+        &mut out[zero..size],
     )
 }
 

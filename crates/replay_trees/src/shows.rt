@@ -51,9 +51,9 @@ pub fn reading(answer: Reading, nodes: &[u64], text: &[u8], line: &mut [u8]) {
     match answer {
         Reading::Read {
             nodes: count,
-            text: length,
+            text: size,
             depth,
-        } => tree(count, length, depth, nodes, text, line),
+        } => tree(count, size, depth, nodes, text, line),
         Reading::Refused(why) => refusal(why, line),
     }
 }
@@ -63,17 +63,17 @@ fn refusal(why: Refusal, line: &mut [u8]) {
     replay::finish(line, end);
 }
 
-fn tree(count: usize, length: usize, depth: usize, nodes: &[u64], text: &[u8], line: &mut [u8]) {
+fn tree(count: usize, size: usize, depth: usize, nodes: &[u64], text: &[u8], line: &mut [u8]) {
     if nodes.len() / STRIDE < count {
         return;
     }
-    if text.len() < length {
+    if text.len() < size {
         return;
     }
     let zero = 0;
     let words = count * STRIDE;
     write_words(b"nodes=", &nodes[zero..words], b" text=", line, 0);
-    replay::write_hex(&text[zero..length], line);
+    replay::write_hex(&text[zero..size], line);
     let name = replay::put(b" depth=", line, 0);
     let end = put_digits(depth as u64, line, name);
     replay::finish(line, end);

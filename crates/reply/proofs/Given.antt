@@ -7,12 +7,13 @@ use lib.ListN.{replicate}
 use Rattle.refusals.specs.declared.Refusal.{Refusal}
 use Rattle.lent.specs.declared.Written.{Written}
 use Rattle.lent.specs.declared.Written.the-variants.{Length, Refused}
+use Rattle.reader.specs.Rooms.{programWords}
 use Rattle.reply.specs.Reply.{Rooms, Replies}
 use Rattle.reply.specs.Printed.{shown, Shows, Lists, Prints}
 use Rattle.reply.proofs.Trees.{rooms-equal}
 
 module _ {tables reply entry : List ℕ} where
-  pub in-rooms : {n t s : List ℕ} {r : Written} {after : Rooms} {exit : List ℕ} → n ≡ replicate 8192 0 → t ≡ replicate 65536 0 → s ≡ replicate 4096 0
+  pub in-rooms : {n t s : List ℕ} {r : Written} {after : Rooms} {exit : List ℕ} → n ≡ replicate programWords 0 → t ≡ replicate 65536 0 → s ≡ replicate 4096 0
       → Replies tables reply (record { nodes = n; text = t; stack = s }) entry r after exit → Lists tables reply entry r exit
   in-rooms {n} {t} {s} {r} {after} {exit} a b c d = record {
     after = after;

@@ -20,7 +20,8 @@ use Rattle.arena.proofs.Arenas.{one-arena}
 use Rattle.brackets.specs.Walk.{Outcome, tree, refused}
 use Rattle.reader.specs.declared.read.Reading.{Reading}
 use Rattle.reader.specs.Read as read
-use Rattle.reader.specs.Read.{inputLimit, parse, reading, refusing, written, fitted, settled}
+use Rattle.refusals.specs.Limit.{inputLimit}
+use Rattle.reader.specs.Read.{parse, reading, refusing, written, fitted, settled}
 use Rattle.reader.proofs.Sounds.{accepted-arena}
 use Rattle.tables.specs.Check.{passes}
 use Rattle.tables.specs.Layout.{Lent, tablesOf}

@@ -10,7 +10,7 @@ use Rattle.refusals.specs.declared.Refusal.{Refusal}
 use Rattle.refusals.specs.declared.Refusal.the-variants.{InputTooLong, BadTable}
 use Rattle.lent.specs.declared.Written.{Written}
 use Rattle.lent.specs.Left.{refusing, Leaves}
-use Rattle.arena.specs.Layout.{stride}
+use Rattle.reader.specs.Rooms.{programWords}
 use Rattle.arena.specs.Tree.{Tree}
 use Rattle.brackets.specs.Walk.{tree}
 use Rattle.reader.specs.declared.read.Reading.{Reading}
@@ -51,6 +51,6 @@ pub data Replies (tables reply : List ℕ) (rooms : Rooms) (entry : List ℕ) (r
   bad-table : within tables reply ≡ true → ((T : Tables) → Spells tables T → ⊥) → Leaves (refusing BadTable entry) r exit → after ≡ rooms → Replies tables reply rooms entry r after exit
   spelled : within tables reply ≡ true → (T : Tables) → Spells tables T → Walks T rooms reply entry r exit → after ≡ roomsOf (readIn rooms reply) → Replies tables reply rooms entry r after exit
 
--- the program's rooms: 2,048 nodes, 65,536 text bytes, depth 4,096
+-- the program's rooms: its nodes, 65,536 text bytes, depth 4,096
 abbrev pub programRooms : Rooms
-programRooms = record { nodes = replicate (2048 * stride) 0; text = replicate 65536 0; stack = replicate 4096 0 }
+programRooms = record { nodes = replicate programWords 0; text = replicate 65536 0; stack = replicate 4096 0 }

@@ -1,14 +1,16 @@
 // The rooms of program `modellist`: 2,048 nodes, 65,536 text bytes, depth 4,096.
 use crate::reply::list_in;
 use lent::Written;
+use reader::PROGRAM_WORDS;
 ghost use mathlib.Core.Path.{_≡_};
 ghost use lib.ListN.{replicate};
+ghost use Rattle.reader.specs.Rooms.{programWords};
 ghost use Rattle.reply.specs.Printed.{Lists};
 
-fn node_words() -> [u64; 8192]
-    ensures { λ r. ⌜ r ≡ replicate 8192 0 ⌝ }
+fn node_words() -> [u64; PROGRAM_WORDS]
+    ensures { λ r. ⌜ r ≡ replicate programWords 0 ⌝ }
 {
-    [0; 8192]
+    [0; PROGRAM_WORDS]
 }
 
 fn text_bytes() -> [u8; 65536]

@@ -11,7 +11,7 @@ use Rattle.lent.specs.Put.{Puts}
 use Rattle.lent.proofs.Pieces.{piece-front}
 use Rattle.order.specs.Order.{before}
 use Rattle.order.specs.Merge.{inserts}
-use Rattle.order.specs.Every.{Every, none, also, Ascends}
+use Rattle.order.specs.Every.{Every, finished, also, Ascends}
 use Rattle.order.proofs.Befores.{never, before-transitive, before-total}
 use Rattle.order.proofs.Everies.{every-map, every-append, every-left, every-right, every-head, ascends-head, ascends-across}
 use Rattle.order.proofs.Arranges.{first-before}
@@ -101,7 +101,7 @@ record Seam (last : Bool) (s : List ℕ) (k p : ℕ) (whole : List ℕ) : Type 0
   makes : run (inserts key last (us ++ (x ∷ [])) (y ∷ bs)) ≡ whole
 
 seam-of : (last : Bool) (s : List ℕ) (k p : ℕ) (whole : List ℕ) → (k ≡ 0 → ⊥) → k < length s → Begun s 0 (k - 1) p → Two last s k whole → Seam last s k p whole
-seam-of last s k p whole some less b two =
+seam-of last s k p whole nonzero less b two =
     let m = b .most in
     let c = cut-at s 0 p (two .us) (run (two .bs)) (two .plain-us) (two .parts) (omega arith) (omega (arith, two .seam)) (b .edge) in
     go (c .ones) (c .twos) (c .parts) (c .place) (two .bs) refl
@@ -134,7 +134,7 @@ seam-of last s k p whole some less b two =
           makes = ap (λ (r : List (List ℕ)). run (inserts key last r (y ∷ bs))) (sym q) ∙ ap (λ (r : List (List ℕ)). run (inserts key last (two .us) r)) (sym e) ∙ two .makes;
         }
 
-module _ (last : Bool) (s : List ℕ) (k p : ℕ) (some : k ≡ 0 → ⊥) (less : k < length s) (b : Begun s 0 (k - 1) p) where
+module _ (last : Bool) (s : List ℕ) (k p : ℕ) (nonzero : k ≡ 0 → ⊥) (less : k < length s) (b : Begun s 0 (k - 1) p) where
   at-p : (whole : List ℕ) (m : Seam last s k p whole) → drop p s ≡ run (m .x ∷ []) ++ run (m .y ∷ m .bs)
   at-p whole m = drop-run s 0 p (m .us) (m .x ∷ []) (m .us ++ (m .x ∷ [])) (run (m .y ∷ m .bs)) (m .parts) refl (omega (arith, m .place))
 
@@ -151,7 +151,7 @@ module _ (last : Bool) (s : List ℕ) (k p : ℕ) (some : k ≡ 0 → ⊥) (less
   merged-apart t e g = record {
     within = omega arith;
     made = λ whole two.
-        let m = seam-of last s k p whole some less b two in
+        let m = seam-of last s k p whole nonzero less b two in
         let lt : before (key (m .x)) (key (m .y)) ≡ true = ap (λ (v : List ℕ). before v (key (m .y))) (sym (key-p whole m)) ∙ ap (before (keyAt s p)) (sym (key-k whole m)) ∙ sym e ∙ g in
         let under-x : Every (λ z. before (key (m .x)) (key z) ≡ true) (m .y ∷ m .bs) = first-before key last (m .x) (m .y) (m .bs) lt (ascends-head key (m .y) (m .bs) (m .rise-bs)) in
         let under : Every (λ u. Every (λ z. before (key u) (key z) ≡ true) (m .y ∷ m .bs)) (m .us ++ (m .x ∷ [])) =
@@ -160,7 +160,7 @@ module _ (last : Bool) (s : List ℕ) (k p : ℕ) (some : k ≡ 0 → ⊥) (less
         (λ u f. every-map (λ z. before (key (m .x)) (key z) ≡ true) (λ z. before (key u) (key z) ≡ true)
         (λ z w. before-transitive (key u) (key (m .x)) (key z) (every-head (λ z. before (key u) (key z) ≡ true) (m .x) [] f) w) (m .y ∷ m .bs) under-x) (m .us)
         (ascends-across key (m .us) (m .x ∷ []) (m .rise-us)))
-        (also under-x none) in
+        (also under-x finished) in
         front-all s whole
         (m .parts ∙ sym (run-append (m .us ++ (m .x ∷ [])) (m .y ∷ m .bs))
         ∙ ap run (sym (inserts-below key last (m .us ++ (m .x ∷ [])) (m .y ∷ m .bs) (m .rise-us) under)) ∙ m .makes);
@@ -170,7 +170,7 @@ module _ (last : Bool) (s : List ℕ) (k p : ℕ) (some : k ≡ 0 → ⊥) (less
   merged-met u v exit r e g e2 g2 d = record {
     within = d .within;
     made = λ whole two.
-        let m = seam-of last s k p whole some less b two in
+        let m = seam-of last s k p whole nonzero less b two in
         let same : key (m .x) ≡ key (m .y) = sym (key-p whole m) ∙ before-total (keyAt s p) (keyAt s k) (sym e ∙ g) (sym e2 ∙ g2) ∙ key-k whole m in
         which whole m same last refl;
   }
@@ -194,12 +194,12 @@ module _ (last : Bool) (s : List ℕ) (k p : ℕ) (some : k ≡ 0 → ⊥) (less
           ∙ ap run (sym (meet-earlier key last (m .us) (m .bs) (m .x) (m .y) (m .rise-us) (m .rise-bs) same l)) ∙ m .makes in
           subst (λ (z : List ℕ). Front exit r z) w (d .earlier l)
 
-  -- a run of one record that is not the least has some before it
+  -- a run of one record that is not the least has nonzero before it
   pub merged-never : (v : Bool) (h q : ℕ) (exit : List ℕ) (r : ℕ) → r ≤ length s → v ≡ before (keyAt s k) (keyAt s p) → v ≡ true → Halved s k h → Lower s h k q → h + (q - k) ≡ 0 → Merged last k s exit r
   merged-never v h q exit r fit e g a w z = record {
     within = fit;
     made = λ whole two.
-        let m = seam-of last s k p whole some less b two in
+        let m = seam-of last s k p whole nonzero less b two in
         absurd (go whole m (m .us) refl (m .place));
   }
     where

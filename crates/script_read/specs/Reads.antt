@@ -9,7 +9,8 @@ use Rattle.lexicon.specs.Class.{classOf, comment}
 use Rattle.arena.specs.Tree.{Tree, Trees, nil, cons}
 use Rattle.brackets.specs.Walk.{tree}
 use Rattle.tokens.specs.Lexeme.{lexemeAt}
-use Rattle.reader.specs.Read.{inputLimit, parse, fitted, reading}
+use Rattle.refusals.specs.Limit.{inputLimit}
+use Rattle.reader.specs.Read.{parse, fitted, reading}
 
 abbrev pub isComment : ℕ → Bool
 isComment first = eqb (classOf first) comment

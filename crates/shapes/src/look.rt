@@ -4,7 +4,7 @@ use arena::node_at;
 ghost use Rattle.shapes.specs.Shows.{WordAt, IndexOf, WideAt, PartsAt};
 
 pub enum Word {
-    Symbol { length: u64, offset: u64 },
+    Symbol { size: u64, offset: u64 },
     NoSymbol,
 }
 
@@ -36,10 +36,10 @@ pub fn symbol_at(nodes: &[u64], at: usize) -> Word
         } => Word::NoSymbol,
         Node::Numeral { low: _, high: _ } => Word::NoSymbol,
         Node::String {
-            length: _,
+            size: _,
             offset: _,
         } => Word::NoSymbol,
-        Node::Symbol { length, offset } => Word::Symbol { length, offset },
+        Node::Symbol { size, offset } => Word::Symbol { size, offset },
         Node::App {
             children: _,
             end: _,
@@ -60,11 +60,11 @@ pub fn numeral_at(nodes: &[u64], at: usize) -> Index
         } => Index::NoNumeral,
         Node::Numeral { low, high } => Index::Numeral { low, high },
         Node::String {
-            length: _,
+            size: _,
             offset: _,
         } => Index::NoNumeral,
         Node::Symbol {
-            length: _,
+            size: _,
             offset: _,
         } => Index::NoNumeral,
         Node::App {
@@ -95,11 +95,11 @@ pub fn wide_at(nodes: &[u64], at: usize) -> Wide
         }
         Node::Numeral { low: _, high: _ } => Wide::NotWide,
         Node::String {
-            length: _,
+            size: _,
             offset: _,
         } => Wide::NotWide,
         Node::Symbol {
-            length: _,
+            size: _,
             offset: _,
         } => Wide::NotWide,
         Node::App {
@@ -122,11 +122,11 @@ pub fn list_at(nodes: &[u64], at: usize) -> Parts
         } => Parts::NoList,
         Node::Numeral { low: _, high: _ } => Parts::NoList,
         Node::String {
-            length: _,
+            size: _,
             offset: _,
         } => Parts::NoList,
         Node::Symbol {
-            length: _,
+            size: _,
             offset: _,
         } => Parts::NoList,
         Node::App { children, end: _ } => Parts::Children(children),

@@ -50,13 +50,13 @@ pub enum Found {
     },
     Indexed {
         offset: u64,
-        length: u64,
+        size: u64,
         low: u64,
         high: u64,
     },
     Made {
         offset: u64,
-        length: u64,
+        size: u64,
         first: usize,
         count: u64,
     },
@@ -64,32 +64,32 @@ pub enum Found {
 }
 
 // (Decimal b), (Datetime b), (Duration b) with b of 64 bits, or a name's application.
-fn extension(nodes: &[u64], text: &[u8], offset: u64, length: u64, first: usize) -> Found
-    ensures { λ r. ⌜ OneAt extShape (now (nodes .entry)) (now (text .entry)) offset length first r ⌝ }
+fn extension(nodes: &[u64], text: &[u8], offset: u64, size: u64, first: usize) -> Found
+    ensures { λ r. ⌜ OneAt extShape (now (nodes .entry)) (now (text .entry)) offset size first r ⌝ }
 {
     let count = 1;
     let wide = wide_at(nodes, first);
     let Wide::Bits(low) = wide else {
         return Found::Made {
             offset,
-            length,
+            size,
             first,
             count,
         };
     };
-    if text_is(text, offset, length, b"Decimal") {
+    if text_is(text, offset, size, b"Decimal") {
         return Found::Extension {
             kind: Kind::Decimal,
             low,
         };
     }
-    if text_is(text, offset, length, b"Datetime") {
+    if text_is(text, offset, size, b"Datetime") {
         return Found::Extension {
             kind: Kind::Datetime,
             low,
         };
     }
-    if text_is(text, offset, length, b"Duration") {
+    if text_is(text, offset, size, b"Duration") {
         return Found::Extension {
             kind: Kind::Duration,
             low,
@@ -97,29 +97,29 @@ fn extension(nodes: &[u64], text: &[u8], offset: u64, length: u64, first: usize)
     }
     Found::Made {
         offset,
-        length,
+        size,
         first,
         count,
     }
 }
 
 // (f a)
-fn one(nodes: &[u64], text: &[u8], offset: u64, length: u64, first: usize) -> Found
-    ensures { λ r. ⌜ OneAt one (now (nodes .entry)) (now (text .entry)) offset length first r ⌝ }
+fn one(nodes: &[u64], text: &[u8], offset: u64, size: u64, first: usize) -> Found
+    ensures { λ r. ⌜ OneAt one (now (nodes .entry)) (now (text .entry)) offset size first r ⌝ }
 {
-    if text_is(text, offset, length, b"not") {
+    if text_is(text, offset, size, b"not") {
         return Found::Operator;
     }
-    if text_is(text, offset, length, b"bvnego") {
+    if text_is(text, offset, size, b"bvnego") {
         return Found::Operator;
     }
-    if text_is(text, offset, length, b"some") {
+    if text_is(text, offset, size, b"some") {
         return Found::SomeOf { value: first };
     }
-    if text_is(text, offset, length, b"set.singleton") {
+    if text_is(text, offset, size, b"set.singleton") {
         return Found::Singleton { value: first };
     }
-    extension(nodes, text, offset, length, first)
+    extension(nodes, text, offset, size, first)
 }
 
 // (_ bvN W), or a name's application; off and long tell the text of the first argument.
@@ -127,12 +127,12 @@ fn index(
     nodes: &[u64],
     text: &[u8],
     offset: u64,
-    length: u64,
+    size: u64,
     off: u64,
     long: u64,
     first: usize,
 ) -> Found
-    ensures { λ r. ⌜ IndexAt (now (nodes .entry)) (now (text .entry)) offset length off long first r ⌝ }
+    ensures { λ r. ⌜ IndexAt (now (nodes .entry)) (now (text .entry)) offset size off long first r ⌝ }
 {
     let count = 2;
     let second = after(nodes, first);
@@ -140,7 +140,7 @@ fn index(
     let Index::Numeral { low, high } = index else {
         return Found::Made {
             offset,
-            length,
+            size,
             first,
             count,
         };
@@ -148,7 +148,7 @@ fn index(
     if long < 2 {
         return Found::Made {
             offset,
-            length,
+            size,
             first,
             count,
         };
@@ -156,41 +156,41 @@ fn index(
     if text_is(text, off, 2, b"bv") {
         return Found::Indexed {
             offset: off + 2,
-            length: long - 2,
+            size: long - 2,
             low,
             high,
         };
     }
     Found::Made {
         offset,
-        length,
+        size,
         first,
         count,
     }
 }
 
 // (as none T), (as set.empty T), (_ bvN W), or a name's application.
-fn worded(nodes: &[u64], text: &[u8], offset: u64, length: u64, first: usize) -> Found
-    ensures { λ r. ⌜ TwoAt pairShape (now (nodes .entry)) (now (text .entry)) offset length first r ⌝ }
+fn worded(nodes: &[u64], text: &[u8], offset: u64, size: u64, first: usize) -> Found
+    ensures { λ r. ⌜ TwoAt pairShape (now (nodes .entry)) (now (text .entry)) offset size first r ⌝ }
 {
     let count = 2;
     let word = symbol_at(nodes, first);
     let Word::Symbol {
-        length: long,
+        size: long,
         offset: off,
     } = word
     else {
         return Found::Made {
             offset,
-            length,
+            size,
             first,
             count,
         };
     };
-    if text_is(text, offset, length, b"_") {
-        return index(nodes, text, offset, length, off, long, first);
+    if text_is(text, offset, size, b"_") {
+        return index(nodes, text, offset, size, off, long, first);
     }
-    if text_is(text, offset, length, b"as") {
+    if text_is(text, offset, size, b"as") {
         let sort = after(nodes, first);
         if text_is(text, off, long, b"none") {
             return Found::AsNone { sort };
@@ -201,62 +201,62 @@ fn worded(nodes: &[u64], text: &[u8], offset: u64, length: u64, first: usize) ->
     }
     Found::Made {
         offset,
-        length,
+        size,
         first,
         count,
     }
 }
 
 // (f a b)
-fn two(nodes: &[u64], text: &[u8], offset: u64, length: u64, first: usize) -> Found
-    ensures { λ r. ⌜ TwoAt two (now (nodes .entry)) (now (text .entry)) offset length first r ⌝ }
+fn two(nodes: &[u64], text: &[u8], offset: u64, size: u64, first: usize) -> Found
+    ensures { λ r. ⌜ TwoAt two (now (nodes .entry)) (now (text .entry)) offset size first r ⌝ }
 {
-    if text_is(text, offset, length, b"or") {
+    if text_is(text, offset, size, b"or") {
         return Found::Operator;
     }
-    if text_is(text, offset, length, b"=") {
+    if text_is(text, offset, size, b"=") {
         return Found::Operator;
     }
-    if text_is(text, offset, length, b"bvsaddo") {
+    if text_is(text, offset, size, b"bvsaddo") {
         return Found::Operator;
     }
-    if text_is(text, offset, length, b"bvsmulo") {
+    if text_is(text, offset, size, b"bvsmulo") {
         return Found::Operator;
     }
-    if text_is(text, offset, length, b"set.union") {
+    if text_is(text, offset, size, b"set.union") {
         let second = after(nodes, first);
         return Found::Union {
             left: first,
             right: second,
         };
     }
-    if text_is(text, offset, length, b"V4") {
+    if text_is(text, offset, size, b"V4") {
         return Found::Operator;
     }
-    if text_is(text, offset, length, b"V6") {
+    if text_is(text, offset, size, b"V6") {
         return Found::Operator;
     }
-    worded(nodes, text, offset, length, first)
+    worded(nodes, text, offset, size, first)
 }
 
 // A name's application to so many arguments from a node on.
-fn applied(nodes: &[u64], text: &[u8], offset: u64, length: u64, first: usize, count: u64) -> Found
-    ensures { λ r. ⌜ AppliedAt (now (nodes .entry)) (now (text .entry)) offset length first count r ⌝ }
+fn applied(nodes: &[u64], text: &[u8], offset: u64, size: u64, first: usize, count: u64) -> Found
+    ensures { λ r. ⌜ AppliedAt (now (nodes .entry)) (now (text .entry)) offset size first count r ⌝ }
 {
     if count == 1 {
-        return one(nodes, text, offset, length, first);
+        return one(nodes, text, offset, size, first);
     }
     if count == 2 {
-        return two(nodes, text, offset, length, first);
+        return two(nodes, text, offset, size, first);
     }
     if count == 3 {
-        if text_is(text, offset, length, b"ite") {
+        if text_is(text, offset, size, b"ite") {
             return Found::Operator;
         }
     }
     Found::Made {
         offset,
-        length,
+        size,
         first,
         count,
     }
@@ -273,14 +273,14 @@ fn headed(nodes: &[u64], text: &[u8], inner: usize, parts: u64, value: usize, co
         return Found::Other;
     }
     let word = symbol_at(nodes, inner);
-    let Word::Symbol { length, offset } = word else {
+    let Word::Symbol { size, offset } = word else {
         return Found::Other;
     };
-    if text_is(text, offset, length, b"as") {
+    if text_is(text, offset, size, b"as") {
         let second = after(nodes, inner);
         let next = symbol_at(nodes, second);
         let Word::Symbol {
-            length: long,
+            size: long,
             offset: off,
         } = next
         else {
@@ -307,10 +307,10 @@ fn by_head(nodes: &[u64], text: &[u8], at: usize, count: u64) -> Found
         } => Found::Other,
         Node::Numeral { low: _, high: _ } => Found::Other,
         Node::String {
-            length: _,
+            size: _,
             offset: _,
         } => Found::Other,
-        Node::Symbol { length, offset } => applied(nodes, text, offset, length, at + 1, count),
+        Node::Symbol { size, offset } => applied(nodes, text, offset, size, at + 1, count),
         Node::App { children, end } => headed(nodes, text, at + 1, children, end as usize, count),
         Node::NoNode => Found::Other,
     }

@@ -11,7 +11,7 @@ ghost use Rattle.shapes.specs.SortShape.{SortShapeAt, SortListAt, SortOn
 
 // A width is two words, the low one first.
 pub enum SortFound {
-    Word { offset: u64, length: u64 },
+    Word { offset: u64, size: u64 },
     Width { low: u64, high: u64 },
     OptionOf(usize),
     SetOf(usize),
@@ -19,25 +19,25 @@ pub enum SortFound {
 }
 
 // (Option T), (Set T)
-fn sort_one(nodes: &[u64], text: &[u8], offset: u64, length: u64, first: usize) -> SortFound
-    ensures { λ r. ⌜ SortOneAt (now (nodes .entry)) (now (text .entry)) offset length first r ⌝ }
+fn sort_one(nodes: &[u64], text: &[u8], offset: u64, size: u64, first: usize) -> SortFound
+    ensures { λ r. ⌜ SortOneAt (now (nodes .entry)) (now (text .entry)) offset size first r ⌝ }
 {
-    if text_is(text, offset, length, b"Option") {
+    if text_is(text, offset, size, b"Option") {
         return SortFound::OptionOf(first);
     }
-    if text_is(text, offset, length, b"Set") {
+    if text_is(text, offset, size, b"Set") {
         return SortFound::SetOf(first);
     }
     SortFound::NoSort
 }
 
 // (_ BitVec n)
-fn sort_two(nodes: &[u64], text: &[u8], offset: u64, length: u64, first: usize) -> SortFound
-    ensures { λ r. ⌜ SortTwoAt (now (nodes .entry)) (now (text .entry)) offset length first r ⌝ }
+fn sort_two(nodes: &[u64], text: &[u8], offset: u64, size: u64, first: usize) -> SortFound
+    ensures { λ r. ⌜ SortTwoAt (now (nodes .entry)) (now (text .entry)) offset size first r ⌝ }
 {
     let word = symbol_at(nodes, first);
     let Word::Symbol {
-        length: long,
+        size: long,
         offset: off,
     } = word
     else {
@@ -47,7 +47,7 @@ fn sort_two(nodes: &[u64], text: &[u8], offset: u64, length: u64, first: usize) 
     let Index::Numeral { low, high } = index else {
         return SortFound::NoSort;
     };
-    if text_is(text, offset, length, b"_") {
+    if text_is(text, offset, size, b"_") {
         if text_is(text, off, long, b"BitVec") {
             return SortFound::Width { low, high };
         }
@@ -63,15 +63,15 @@ fn sort_list(nodes: &[u64], text: &[u8], at: usize, count: u64) -> SortFound
         return SortFound::NoSort;
     }
     let word = symbol_at(nodes, at);
-    let Word::Symbol { length, offset } = word else {
+    let Word::Symbol { size, offset } = word else {
         return SortFound::NoSort;
     };
     let first = after(nodes, at);
     if count == 2 {
-        return sort_one(nodes, text, offset, length, first);
+        return sort_one(nodes, text, offset, size, first);
     }
     if count == 3 {
-        return sort_two(nodes, text, offset, length, first);
+        return sort_two(nodes, text, offset, size, first);
     }
     SortFound::NoSort
 }
@@ -82,7 +82,7 @@ pub fn sort_shape_at(nodes: &[u64], text: &[u8], at: usize) -> SortFound
 {
     let word = symbol_at(nodes, at);
     match word {
-        Word::Symbol { length, offset } => SortFound::Word { offset, length },
+        Word::Symbol { size, offset } => SortFound::Word { offset, size },
         Word::NoSymbol => {
             let list = list_at(nodes, at);
             let Parts::Children(count) = list else {

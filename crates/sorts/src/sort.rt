@@ -75,10 +75,10 @@ fn sort_width(sorts: &[u64], low: u64, high: u64) -> Sorted
     row_of(sorts, Wanted::BitVec(low))
 }
 
-fn word_at(sorts: &[u64], names: &[u8], text: &[u8], offset: u64, length: u64) -> Sorted
-    ensures { λ r. ⌜ WordSort (now (sorts .entry)) (now (names .entry)) (textAt (now (text .entry)) offset length) r ⌝ }
+fn word_at(sorts: &[u64], names: &[u8], text: &[u8], offset: u64, size: u64) -> Sorted
+    ensures { λ r. ⌜ WordSort (now (sorts .entry)) (now (names .entry)) (textAt (now (text .entry)) offset size) r ⌝ }
 {
-    let range = clamp(offset, length, text.len());
+    let range = clamp(offset, size, text.len());
     let start = range.start;
     let end = range.end;
     sort_word(sorts, names, &text[start..end])
@@ -99,7 +99,7 @@ pub fn read_sort(
     }
     let shape = sort_shape_at(nodes, text, at);
     match shape {
-        SortFound::Word { offset, length } => word_at(sorts, names, text, offset, length),
+        SortFound::Word { offset, size } => word_at(sorts, names, text, offset, size),
         SortFound::Width { low, high } => sort_width(sorts, low, high),
         SortFound::OptionOf(inner) => {
             let below = read_sort(sorts, names, nodes, text, inner, allow - 1);

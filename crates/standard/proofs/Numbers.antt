@@ -32,10 +32,10 @@ use Rattle.standard.proofs.Runs.{pass, pass-all, span-run}
 use Rattle.standard.proofs.Separators.{one-piece, at-class}
 
 -- a run of digits below 2^128 is a number
-module _ (r : Radix) (ds : List ℕ) (some : someByte ds ≡ true) (each : all (isDigit r) ds ≡ true) (small : Run.number (baseOf r) ds < 2 ^ 128) where
+module _ (r : Radix) (ds : List ℕ) (nonzero : someByte ds ≡ true) (each : all (isDigit r) ds ≡ true) (small : Run.number (baseOf r) ds < 2 ^ 128) where
   parsed-is : parsed r ds ≡ Number (pairOf (Run.number (baseOf r) ds))
   unfolding parsed
-  parsed-is = rw (some, each, lt-ltb (Run.number (baseOf r) ds) (2 ^ 128) small)
+  parsed-is = rw (nonzero, each, lt-ltb (Run.number (baseOf r) ds) (2 ^ 128) small)
 
   from-is : (make : ℕ → Atom) → fromParsed (parsed r ds) make ≡ token (atom (make (Run.number (baseOf r) ds)))
   from-is make =

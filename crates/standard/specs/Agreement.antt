@@ -5,7 +5,8 @@ use mathlib.Core.List.{List}
 use Prim.Native.Nat.{ℕ, _≤_}
 use lib.ListN.{length}
 use Rattle.brackets.specs.Walk.{tree}
-use Rattle.reader.specs.Read.{inputLimit, parse, fitted, reading}
+use Rattle.refusals.specs.Limit.{inputLimit}
+use Rattle.reader.specs.Read.{parse, fitted, reading}
 use Rattle.standard.specs.Written.{Expression, Written}
 use Rattle.standard.specs.Image.{image}
 use Rattle.standard.specs.Limits.{Within, noLoneReturn}

@@ -12,7 +12,8 @@ use Rattle.ground.specs.Lists.{joined}
 use Rattle.ground.proofs.Tests.{by-test, both-parts}
 use Rattle.refusals.specs.declared.Refusal.the-variants.{OutRoom}
 use Rattle.lent.specs.Left.{writing}
-use Rattle.parts.specs.Limit.{inputLimit, tooLong}
+use Rattle.refusals.specs.Limit.{inputLimit}
+use Rattle.parts.specs.Limit.{tooLong}
 use Rattle.parts.specs.Parts.{parts, paired, endsRight, pairsRight}
 use Rattle.parts.specs.Texts.{spaced, pair}
 use Rattle.parts.proofs.Limits.{Short, all-short}

@@ -19,7 +19,8 @@ use Rattle.arena.specs.Tree as arena
 use Rattle.arena.specs.Layout.{stride}
 use Rattle.brackets.specs.Walk.{Outcome, tree, refused}
 use Rattle.tokens.specs.declared.lexeme.Kind.the-variants as K
-use Rattle.reader.specs.Read.{inputLimit, parse, fitted, settled, reading}
+use Rattle.refusals.specs.Limit.{inputLimit}
+use Rattle.reader.specs.Read.{parse, fitted, settled, reading}
 use Rattle.reader.specs.Read as reader
 use Rattle.reader.proofs.Bounds.{accepted-small}
 use Rattle.reader.proofs.Faults.{parse-unstarred}

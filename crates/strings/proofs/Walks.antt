@@ -81,9 +81,9 @@ module _ (s : List ℕ) (n at : ℕ) (so : Measuring s n at) (c : Character) (le
       let t : anySurrogate (points s) ≡ true = sym clean-at ∙ (rw (no-bytes (c .point) .0 (sym of ∙ z))) in
       rw t
 
-  module _ (some : size ≡ 0 → ⊥) (byte : getD s at 0 < 256) where
+  module _ (nonzero : size ≡ 0 → ⊥) (byte : getD s at 0 < 256) where
     is-scalar : scalar (c .point) ≡ true
-    is-scalar = by-test (scalar (c .point)) (λ t. t) (λ t. absurd (some (of ∙ no-bytes (c .point) .1 t)))
+    is-scalar = by-test (scalar (c .point)) (λ t. t) (λ t. absurd (nonzero (of ∙ no-bytes (c .point) .1 t)))
 
     left : length (encodings (points (drop at s))) ≡ size + length (encodings (points (drop (at + 1 + c .more) s)))
     left =

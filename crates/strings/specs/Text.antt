@@ -4,15 +4,13 @@ use mathlib.Core.List.{List, [], _∷_, _++_}
 use Prim.Native.Nat.{ℕ}
 use lib.Dec.{leb}
 use lib.ListN.{length}
+use Rattle.refusals.specs.Limit.{inputLimit}
 use Rattle.refusals.specs.declared.Refusal.the-variants.{StringParseError, InputTooLong, TextRoom}
 use Rattle.lent.specs.Left.{Left, refusing, writing}
 use Rattle.utf8.specs.Encoding.{scalar, encoded, bytesOf}
 use Rattle.strings.specs.declared.text.Measured.{Measured}
 use Rattle.strings.specs.declared.text.Measured.the-variants.{Text, Surrogate}
 use Rattle.strings.specs.Points.{points}
-
-abbrev pub inputLimit : ℕ
-inputLimit = 16777216
 
 unfoldable pub encodings : List ℕ → List ℕ
 encodings [] = []

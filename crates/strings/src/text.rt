@@ -1,6 +1,7 @@
 // The text of a string: found too long or refused in a first pass, written in a second.
 use crate::character::character_at;
 use lent::Written;
+use refusals::INPUT_LIMIT;
 use refusals::Refusal;
 use utf8::Encoded;
 use utf8::encode;
@@ -88,7 +89,7 @@ pub fn write_text(s: &[u8], out: &mut [u8]) -> usize
 pub fn decode_string(s: &[u8], out: &mut [u8]) -> Written
     ensures { λ r. ⌜ Leaves (decoded (now (s .entry)) (now (out .entry))) r (now (out .exit)) ⌝ }
 {
-    if 16777216 < s.len() {
+    if INPUT_LIMIT < s.len() {
         return Written::Refused(Refusal::InputTooLong);
     }
     let found = measure(s);

@@ -60,12 +60,12 @@ module _ (ws names name : List ℕ) (i first size : ℕ) (e : first ≡ word ws 
     pub not-long : (size ≡ length name → ⊥) → MayBeNamed ws names name i false
     not-long h z = carried (other-size names name first size all-there h)
 
-    module _ (same : size ≡ length name) (some : size ≡ 0 → ⊥) (k : ℕ) (last : k ≡ length name - 1) where
+    module _ (same : size ≡ length name) (nonzero : size ≡ 0 → ⊥) (k : ℕ) (last : k ≡ length name - 1) where
       pub last-there : first + k < length names
-      last-there = omega (arith, all-there, same, some, last)
+      last-there = omega (arith, all-there, same, nonzero, last)
 
       pub last-tells : MayBeNamed ws names name i (eqb (getD names (first + k) 0) (getD name k 0))
       last-tells z =
           carried
-          (other-last names name first size all-there k (omega (arith, same, some, last))
+          (other-last names name first size all-there k (omega (arith, same, nonzero, last))
           (eqb-false (getD names (first + k) 0) (getD name k 0) z))

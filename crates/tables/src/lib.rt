@@ -14,7 +14,6 @@ pub use find::Found;
 pub use find::find_function;
 pub use find::find_member;
 pub use find::find_variable;
-pub use kept::is_kept;
 pub use row::Range;
 pub use row::STRIDE;
 pub use row::clamp;

@@ -40,8 +40,8 @@ pub fn tell_written(answer: Written, told: &mut [u64]) -> u64
     ensures { λ r. ⌜ Tells (written answer) (now (told .entry)) r (now (told .exit)) ⌝ }
 {
     match answer {
-        Written::Length(length) => {
-            tell(&[length as u64], told);
+        Written::Length(size) => {
+            tell(&[size as u64], told);
             0
         }
         Written::Refused(why) => code(why),

@@ -4,7 +4,6 @@ mod rows;
 mod trees;
 
 pub use answer::code;
-pub use answer::tell;
 pub use answer::tell_written;
 pub use rows::tell_found;
 pub use rows::tell_tables;

@@ -2,10 +2,12 @@
 mod shows;
 
 use libc::STDIN_FILENO;
+use reader::PROGRAM_WORDS;
 use reader::Reading;
 use refusals::Refusal;
 ghost use mathlib.Core.Path.{_≡_};
 ghost use lib.ListN.{length};
+ghost use Rattle.reader.specs.Rooms.{programWords};
 
 fn main() {
     let mut input = io::large_buffer();
@@ -16,11 +18,11 @@ fn main() {
     list(&mut input, &mut nodes, &mut text, &mut stack, &mut line);
 }
 
-// Room for 2,048 nodes.
-fn node_words() -> [u64; 8192]
-    ensures { λ r. ⌜ 8192 ≡ length r ⌝ }
+// Room for as many nodes as the other programs lend.
+fn node_words() -> [u64; PROGRAM_WORDS]
+    ensures { λ r. ⌜ programWords ≡ length r ⌝ }
 {
-    [0; 8192]
+    [0; PROGRAM_WORDS]
 }
 
 fn list(input: &mut [u8], nodes: &mut [u64], text: &mut [u8], stack: &mut [u64], line: &mut [u8]) {
@@ -33,9 +35,9 @@ fn list(input: &mut [u8], nodes: &mut [u64], text: &mut [u8], stack: &mut [u64],
     match answer {
         Reading::Read {
             nodes: count,
-            text: length,
+            text: size,
             depth,
-        } => shows::tree(count, length, depth, nodes, text, line),
+        } => shows::tree(count, size, depth, nodes, text, line),
         Reading::Refused(why) => shows::refusal(why, line),
     }
 }

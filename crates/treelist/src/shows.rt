@@ -28,7 +28,7 @@ pub fn refusal(why: Refusal, line: &mut [u8]) {
 // The needs, the nodes and the text of a tree that was read.
 pub fn tree(
     count: usize,
-    length: usize,
+    size: usize,
     depth: usize,
     nodes: &[u64],
     text: &[u8],
@@ -37,20 +37,20 @@ pub fn tree(
     if nodes.len() / STRIDE < count {
         return;
     }
-    if text.len() < length {
+    if text.len() < size {
         return;
     }
     let zero = 0;
     let words = count * STRIDE;
-    needs(count, length, depth, line);
+    needs(count, size, depth, line);
     list_nodes(&nodes[zero..words], line);
-    replay::write_hex(&text[zero..length], line);
+    replay::write_hex(&text[zero..size], line);
     io::write_all(STDOUT_FILENO, b"\n");
 }
 
-fn needs(count: usize, length: usize, depth: usize, line: &mut [u8]) {
+fn needs(count: usize, size: usize, depth: usize, line: &mut [u8]) {
     let first = put_line(b"nodes=", count, line, 0);
-    let second = put_line(b"text=", length, line, first);
+    let second = put_line(b"text=", size, line, first);
     let end = put_line(b"depth=", depth, line, second);
     replay::flush(line, end);
 }

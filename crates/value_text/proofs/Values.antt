@@ -54,7 +54,7 @@ module _ (sorts members names ws ts : List ℕ) (i allow : ℕ) (a b : List ℕ)
   unfolding read
   value-nested z l g t s e k m = refuses (subst (λ (j : ℕ). read (tablesOf l) j e t ≡ ok k) z m)
 
-  module _ (some : allow ≡ 0 → ⊥) (n : Node) (there : n ≡ nodeAt ws i) where
+  module _ (nonzero : allow ≡ 0 → ⊥) (n : Node) (there : n ≡ nodeAt ws i) where
     abbrev Arm : Node → Type 0
     Arm x = (l : Lent) → Given sorts members names l → (t : Tree) → Standing t ws ts i → Tells ws ts x t → (e : Option ℕ) (k : Lit) → read (tablesOf l) (suc (allow - 1)) e t ≡ ok k →
         (row : ℕ) → HasSort (k .value) Loose (tablesOf l) row → Writes (k .value) a b r

@@ -71,10 +71,10 @@ pub fn write_bits(number: Pair, width: u64, out: &mut [u8]) -> usize
 }
 
 // (_ bvN W)
-pub fn write_indexed(text: &[u8], offset: u64, length: u64, width: u64, out: &mut [u8]) -> usize
-    ensures { λ r. ⌜ IndexedText (textAt (now (text .entry)) offset length) width (now (out .entry)) (now (out .exit)) r ⌝ }
+pub fn write_indexed(text: &[u8], offset: u64, size: u64, width: u64, out: &mut [u8]) -> usize
+    ensures { λ r. ⌜ IndexedText (textAt (now (text .entry)) offset size) width (now (out .entry)) (now (out .exit)) r ⌝ }
 {
-    let range = clamp(offset, length, text.len());
+    let range = clamp(offset, size, text.len());
     let start = range.start;
     let end = range.end;
     let parsed = parse_number(&text[start..end]);
@@ -85,10 +85,10 @@ pub fn write_indexed(text: &[u8], offset: u64, length: u64, width: u64, out: &mu
 }
 
 // `s:`, and two digits a byte.
-pub fn write_string(text: &[u8], offset: u64, length: u64, out: &mut [u8]) -> usize
-    ensures { λ r. ⌜ Offers (now (out .entry)) (now (out .exit)) 0 (shown (vString (textAt (now (text .entry)) offset length))) r ⌝ }
+pub fn write_string(text: &[u8], offset: u64, size: u64, out: &mut [u8]) -> usize
+    ensures { λ r. ⌜ Offers (now (out .entry)) (now (out .exit)) 0 (shown (vString (textAt (now (text .entry)) offset size))) r ⌝ }
 {
-    let range = clamp(offset, length, text.len());
+    let range = clamp(offset, size, text.len());
     let start = range.start;
     let end = range.end;
     let one = put(b"s:", out, 0);
@@ -117,14 +117,14 @@ pub fn write_named(nodes: &[u64], text: &[u8], row: usize, at: usize, out: &mut 
             high: _,
         } => 0,
         Node::Numeral { low: _, high: _ } => 0,
-        Node::String { length, offset } => {
-            let range = clamp(offset, length, text.len());
+        Node::String { size, offset } => {
+            let range = clamp(offset, size, text.len());
             let start = range.start;
             let end = range.end;
             write_entity(row, &text[start..end], out)
         }
         Node::Symbol {
-            length: _,
+            size: _,
             offset: _,
         } => 0,
         Node::App {
@@ -169,12 +169,12 @@ pub fn write_word(
     names: &[u8],
     text: &[u8],
     offset: u64,
-    length: u64,
+    size: u64,
     out: &mut [u8],
 ) -> usize
-    ensures { λ r. ⌜ WordText (now (members .entry)) (now (names .entry)) (textAt (now (text .entry)) offset length) (now (out .entry)) (now (out .exit)) r ⌝ }
+    ensures { λ r. ⌜ WordText (now (members .entry)) (now (names .entry)) (textAt (now (text .entry)) offset size) (now (out .entry)) (now (out .exit)) r ⌝ }
 {
-    let range = clamp(offset, length, text.len());
+    let range = clamp(offset, size, text.len());
     let start = range.start;
     let end = range.end;
     write_name(members, names, &text[start..end], out)

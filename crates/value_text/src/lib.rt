@@ -7,4 +7,3 @@ mod value;
 
 pub use leaf::write_number;
 pub use value::write_inside;
-pub use value::write_value;

@@ -153,13 +153,13 @@ fn write_members(
         Found::Extension { kind: _, low: _ } => place,
         Found::Indexed {
             offset: _,
-            length: _,
+            size: _,
             low: _,
             high: _,
         } => place,
         Found::Made {
             offset: _,
-            length: _,
+            size: _,
             first: _,
             count: _,
         } => place,
@@ -296,16 +296,16 @@ fn write_made(
     nodes: &[u64],
     text: &[u8],
     offset: u64,
-    length: u64,
+    size: u64,
     first: usize,
     count: u64,
     allow: usize,
     scratch: &mut [u8],
     out: &mut [u8],
 ) -> usize
-    ensures { λ r. ⌜ WritesMade (now (sorts .entry)) (now (members .entry)) (now (names .entry)) (now (nodes .entry)) (now (text .entry)) offset length first count allow (now (out .entry)) (now (out .exit)) r ⌝ }
+    ensures { λ r. ⌜ WritesMade (now (sorts .entry)) (now (members .entry)) (now (names .entry)) (now (nodes .entry)) (now (text .entry)) offset size first count allow (now (out .entry)) (now (out .exit)) r ⌝ }
 {
-    let range = clamp(offset, length, text.len());
+    let range = clamp(offset, size, text.len());
     let start = range.start;
     let end = range.end;
     let made = made_of(sorts, names, &text[start..end]);
@@ -404,13 +404,13 @@ fn write_app(
         Found::Extension { kind, low } => write_extension(kind, low, out),
         Found::Indexed {
             offset,
-            length,
+            size,
             low,
             high: _,
-        } => write_indexed(text, offset, length, low, out),
+        } => write_indexed(text, offset, size, low, out),
         Found::Made {
             offset,
-            length,
+            size,
             first,
             count,
         } => write_made(
@@ -420,7 +420,7 @@ fn write_app(
             nodes,
             text,
             offset,
-            length,
+            size,
             first,
             count,
             below,
@@ -452,8 +452,8 @@ pub fn write_value(
     match node {
         Node::BitVec { width, low, high } => write_bits(Pair { low, high }, width, out),
         Node::Numeral { low: _, high: _ } => 0,
-        Node::String { length, offset } => write_string(text, offset, length, out),
-        Node::Symbol { length, offset } => write_word(members, names, text, offset, length, out),
+        Node::String { size, offset } => write_string(text, offset, size, out),
+        Node::Symbol { size, offset } => write_word(members, names, text, offset, size, out),
         Node::App {
             children: _,
             end: _,

@@ -13,14 +13,15 @@ use lib.Signed.{_≤ℤ_, _<ℤ_}
 use borrow.Author.Tests.{ltb-true, ltb-false}
 use Rattle.ground.specs.Lists.{all}
 use Rattle.ground.proofs.Tests.{by-test, both-left, both-right, both}
+use Rattle.utf8.specs.Octets.{utf8}
 use Rattle.words.specs.Radix.{within}
 use Rattle.words.specs.Run.{number}
 use Rattle.words.proofs.Worths.{inside}
 use Rattle.decimals.specs.Decimal.{lastDigits, digitCount, decimal, signedDecimal}
 use Rattle.decimals.proofs.Values.{decimal-number}
 use Rattle.values.specs.Text.{hexDigit, hex, hexText, hexWidth}
-use Rattle.values.specs.HasSort.{octets}
 use Rattle.values.proofs.Alls.{all-append, all-by}
+use Rattle.values.proofs.Bytes.{isByte, utf8-bytes}
 
 -- `0` to `9` and `a` to `f`
 abbrev pub isHexDigit : ℕ → Bool
@@ -87,12 +88,15 @@ digit-same a b e =
     (λ k. let z : 87 + a ≡ 87 + b = rw (h, k) at e in omega arith))
 
 -- two digits a byte
-pub hexText-digits : (s : List ℕ) → octets s ≡ true → all isHexDigit (hexText s) ≡ true
-unfolding hexText octets all
-hexText-digits [] p = refl
-hexText-digits (b ∷ bs) p =
-    let l = ltb-true b 256 (both-left (ltb b 256) (octets bs) p) in
-    both (is-digit (b / 16) (omega arith)) (both (is-digit (b % 16) (omega arith)) (hexText-digits bs (both-right (ltb b 256) (octets bs) p)))
+bytes-digits : (s : List ℕ) → all isByte s ≡ true → all isHexDigit (hexText s) ≡ true
+unfolding hexText all
+bytes-digits [] p = refl
+bytes-digits (b ∷ bs) p =
+    let l = ltb-true b 256 (both-left (ltb b 256) (all isByte bs) p) in
+    both (is-digit (b / 16) (omega arith)) (both (is-digit (b % 16) (omega arith)) (bytes-digits bs (both-right (ltb b 256) (all isByte bs) p)))
+
+pub hexText-digits : (s : List ℕ) → utf8 s ≡ true → all isHexDigit (hexText s) ≡ true
+hexText-digits s p = bytes-digits s (utf8-bytes s p)
 
 pub hexText-same : (s t : List ℕ) → hexText s ≡ hexText t → s ≡ t
 unfolding hexText

@@ -10,18 +10,19 @@ use lib.IntN.{ℤ}
 use Rattle.ground.specs.Lists.{at}
 use Rattle.tables.specs.Sort.{Sort, bool, string, ext, bitVec, optionOf, setOf, entityOf, recordOf, Tables}
 use Rattle.values.specs.Value.{Value, Values, vBool, vString, vExt, vBits, vNone, vSome, vSet, vEntity, vRecord}
-use Rattle.values.specs.HasSort.{HasSort, HaveSort, FieldSorts, octets}
+use Rattle.utf8.specs.Octets.{utf8}
+use Rattle.values.specs.HasSort.{HasSort, HaveSort, FieldSorts}
 use Rattle.values.proofs.Digits.{InWord}
 
 module _ (A : Values → Type 0) (T : Tables) (row : ℕ) where
   abbrev pub Form : Sort → Value → Type 0
   Form bool v = (b : Bool) × (v ≡ vBool b)
-  Form string v = (s : List ℕ) × (octets s ≡ true) × (v ≡ vString s)
+  Form string v = (s : List ℕ) × (utf8 s ≡ true) × (v ≡ vString s)
   Form (ext e) v = (z : ℤ) × InWord z × (v ≡ vExt e z)
   Form (bitVec w) v = (n : ℕ) × (n < 2 ^ w) × (v ≡ vBits w n)
   Form (optionOf q) v = (v ≡ vNone) ⊎ ((u : Value) × HasSort u A T q × (v ≡ vSome u))
   Form (setOf q) v = (us : Values) × HaveSort us A T q × (v ≡ vSet us)
-  Form (entityOf n) v = (s : List ℕ) × (octets s ≡ true) × (v ≡ vEntity row s)
+  Form (entityOf n) v = (s : List ℕ) × (utf8 s ≡ true) × (v ≡ vEntity row s)
   Form (recordOf n fs) v = (us : Values) × FieldSorts us A T fs × (v ≡ vRecord row us)
 
   -- at the row's own sort, and so at the one that is known

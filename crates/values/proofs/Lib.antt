@@ -1,4 +1,5 @@
 pub mod Alls
+pub mod Bytes
 pub mod Digits
 pub mod Forms
 pub mod Tells

@@ -14,7 +14,8 @@ use Rattle.decimals.specs.Decimal.{decimal, lastDigits, digitCountWithin}
 use Rattle.tables.specs.Sort.{bool, string, ext, datetime, bitVec, optionOf, setOf, entityOf, recordOf, Tables}
 use Rattle.values.specs.Value.{Value, vBool, vString, vExt, vBits, vNone, vSome, vSet, vEntity, vRecord, vNil, vCons}
 use Rattle.values.specs.Text.{text, hex, hexDigit}
-use Rattle.values.specs.HasSort.{HasSort, Ascending, Field, octets}
+use Rattle.utf8.specs.Octets.{octets, utf8}
+use Rattle.values.specs.HasSort.{HasSort, Ascending, Field}
 
 abbrev sample : Tables
 sample = record {
@@ -40,7 +41,7 @@ field : {P : ℕ → Type 0} {Q : List ℕ → Type 0} {f : ℕ} {fs : List ℕ}
 field p q = record { first = _; rest = _; both = refl; head = p; tail = q }
 
 has-sort : HasSort each Ascending sample 7
-unfolding at all octets before text hex hexDigit decimal lastDigits digitCountWithin
+unfolding at all octets utf8 before text hex hexDigit decimal lastDigits digitCountWithin
 has-sort = record {
   name = bytes "R";
   fields = 0 ∷ 1 ∷ 2 ∷ 4 ∷ 4 ∷ 5 ∷ 6 ∷ [];

@@ -1,21 +1,17 @@
--- Document 01, "Sorts and literals": what it is for a value to have the sort of a row.
+-- Document 01, "Sorts and literals": what it is for a value to have the sort of a row; a text is UTF-8, as the arena's are.
 use mathlib.Core.Path.{_≡_}
-use mathlib.Core.Bool.{Bool, true}
+use mathlib.Core.Bool.{true}
 use mathlib.Core.List.{List, [], _∷_}
 use mathlib.Core.Option.{some}
 use Prim.Native.Nat.{ℕ, _<_, _^_}
-use lib.Dec.{ltb}
 use lib.IntN.{pos, negℤ}
 use lib.Signed.{_≤ℤ_, _<ℤ_}
-use Rattle.ground.specs.Lists.{all, at}
+use Rattle.ground.specs.Lists.{at}
+use Rattle.utf8.specs.Octets.{utf8}
 use Rattle.order.specs.Order.{before}
 use Rattle.tables.specs.Sort.{Sort, bool, string, ext, bitVec, optionOf, setOf, entityOf, recordOf, Tables}
 use Rattle.values.specs.Value.{Value, Values, vBool, vString, vExt, vBits, vNone, vSome, vSet, vEntity, vRecord, vNil, vCons}
 use Rattle.values.specs.Text.{text}
-
--- every one is a byte
-unfoldable pub octets : List ℕ → Bool
-octets s = all (λ b. ltb b 256) s
 
 -- each text before the next: in order, and no repeats
 abbrev pub Ascending : Values → Type 0
@@ -38,7 +34,7 @@ pub record Named (T : Tables) (own row : ℕ) (s : List ℕ) : Type 0 where
   pub name : List ℕ
   pub here : at (T .sorts) row ≡ some (entityOf name)
   pub same : own ≡ row
-  pub has : octets s ≡ true
+  pub has : utf8 s ≡ true
 
 -- the value's own row is that of a record, and the fields are as asked
 pub record Fields (T : Tables) (own row : ℕ) (P : List ℕ → Type 0) : Type 0 where
@@ -60,7 +56,7 @@ pub record Field (P : ℕ → Type 0) (Q : List ℕ → Type 0) (fields : List �
 abbrev mutual
   pub HasSort : Value → (Values → Type 0) → Tables → ℕ → Type 0
   HasSort (vBool b) A T r = at (T .sorts) r ≡ some bool
-  HasSort (vString s) A T r = (at (T .sorts) r ≡ some string) × (octets s ≡ true)
+  HasSort (vString s) A T r = (at (T .sorts) r ≡ some string) × (utf8 s ≡ true)
   HasSort (vExt e z) A T r = (at (T .sorts) r ≡ some (ext e)) × ((negℤ (pos (2 ^ 63)) ≤ℤ z) × (z <ℤ pos (2 ^ 63)))
   HasSort (vBits w n) A T r = (at (T .sorts) r ≡ some (bitVec w)) × (n < 2 ^ w)
   HasSort vNone A T r = Of T optionOf r (λ q. Unit {0})

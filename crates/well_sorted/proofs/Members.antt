@@ -14,8 +14,6 @@ use Rattle.utf8.specs.Octets.{utf8}
 use Rattle.tables.specs.Sort.{Sort, bool, string, ext, bitVec, optionOf, setOf, entityOf, recordOf, Member, Tables}
 use Rattle.tables.specs.Rules.{nameLimit, ownName, isEntity}
 use Rattle.tables.proofs.Lawful.{Lawful, member-right}
-use Rattle.values.specs.HasSort.{octets}
-use Rattle.well_sorted.proofs.Sound.{utf8-octets}
 
 entity-here : (o : Option Sort) → isEntity o ≡ true → (name : List ℕ) × (o ≡ some (entityOf name))
 entity-here none e = absurd (true≢false (sym e))
@@ -32,7 +30,7 @@ pub record Kept (T : Tables) (m : Member) : Type 0 where
   pub name : List ℕ
   pub here : at (T .sorts) (m .entity) ≡ some (entityOf name)
   pub short : length (m .text) ≤ nameLimit
-  pub has : octets (m .text) ≡ true
+  pub has : utf8 (m .text) ≡ true
 
 module _ (T : Tables) (m : Member) where
   abbrev named : Bool
@@ -50,5 +48,5 @@ module _ (T : Tables) (m : Member) where
         name = entity .0;
         here = entity .1;
         short = leb-true _ _ (both-right named limited front);
-        has = utf8-octets (m .text) (both-right (named && limited) (utf8 (m .text)) right);
+        has = both-right (named && limited) (utf8 (m .text)) right;
       }

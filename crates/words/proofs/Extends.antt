@@ -125,7 +125,7 @@ module _ (l h w : ℕ) (l-fits : l < 2 ^ 64) where
   abbrev whole : ℕ
   whole = l + h * 2 ^ 64
 
-  module _ (some : 0 < w) (short : w ≤ 64) where
+  module _ (nonzero : 0 < w) (short : w ≤ 64) where
     in-low : whole % 2 ^ w ≡ l % 2 ^ w
     in-low =
         let e : 64 - w + w ≡ 64 = omega arith in
@@ -151,7 +151,7 @@ module _ (l h w : ℕ) (l-fits : l < 2 ^ 64) where
     extends-low-negative f e =
         let n = was-negative (w - 1) l f e in
         ap (λ (k : ℕ). k + 18446744073709551615 * 2 ^ 64) (n .1 ∙ ap (λ (k : ℕ). filled 64 k l) width-low) ∙ low-filled
-        ∙ extended-negative w whole some (omega arith) (low-sign ∙ subst (λ (k : ℕ). negative k l ≡ true) width-low (n .0))
+        ∙ extended-negative w whole nonzero (omega arith) (low-sign ∙ subst (λ (k : ℕ). negative k l ≡ true) width-low (n .0))
 
   module _ (long : 64 < w) (short : w < 128) where
     in-high : whole % 2 ^ w ≡ l + h % 2 ^ (w - 64) * 2 ^ 64

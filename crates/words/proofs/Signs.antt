@@ -39,7 +39,7 @@ double w h = let e : w ≡ w - 1 + 1 = omega arith in ap (λ (k : ℕ). 2 ^ k) e
 left : (n p m : ℕ) → n < p → p ≤ m → m - (n + (m - p)) - 1 ≡ p - n - 1
 left n p m h k = omega arith
 
-module _ (w n : ℕ) (some : 0 < w) (fits : n < 2 ^ w) where
+module _ (w n : ℕ) (nonzero : 0 < w) (fits : n < 2 ^ w) where
   pub signed-of : SignedOf w n (signed w n)
   signed-of =
       by-order n (2 ^ (w - 1))
@@ -55,7 +55,7 @@ module _ (w n : ℕ) (some : 0 < w) (fits : n < 2 ^ w) where
       let s = signed-high w n h in
       let m = s ∙ minus n (2 ^ w) fits in
       let e = neg-is (2 ^ (w - 1)) (pow-pos (w - 1)) in
-      let d = double w some in
+      let d = double w nonzero in
       let k : 2 ^ w - n - 1 ≤ 2 ^ (w - 1) - 1 = omega arith in
       record {
         times = 1;
@@ -85,7 +85,7 @@ module _ (w n : ℕ) (some : 0 < w) (fits : n < 2 ^ w) where
 
     kept-high : 2 ^ (w - 1) ≤ n → signed 128 (extended w n) ≡ signed w n
     kept-high h =
-        let e : filled 128 w n ≡ extended w n = extended-negative w n some short (ap (λ (k : ℕ). leb (2 ^ (w - 1)) k) low-bits ∙ le-leb (2 ^ (w - 1)) n h) in
+        let e : filled 128 w n ≡ extended w n = extended-negative w n nonzero short (ap (λ (k : ℕ). leb (2 ^ (w - 1)) k) low-bits ∙ le-leb (2 ^ (w - 1)) n h) in
         let f : n + (2 ^ 128 - 2 ^ w) ≡ extended w n = ap (λ (k : ℕ). k + (2 ^ 128 - 2 ^ w)) (sym low-bits) ∙ e in
         ap (λ (k : ℕ). signed 128 k) (sym f)
         ∙ signed-high 128 (n + (2 ^ 128 - 2 ^ w)) (tops n (2 ^ w) (2 ^ 127) (2 ^ 128) whole-le refl)
@@ -108,4 +108,4 @@ module _ (w n : ℕ) (some : 0 < w) (fits : n < 2 ^ w) where
 
 -- for a number below 2 ^ w the pair, read as signed, is congruent to it modulo 2 ^ w and within the signed range of the width
 pub extension-signed : (w n : ℕ) → 0 < w → w ≤ 128 → n < 2 ^ w → SignedOf w n (signed 128 (extended w n))
-extension-signed w n some h fits = subst (SignedOf w n) (sym (sign-kept w n some fits h)) (signed-of w n some fits)
+extension-signed w n nonzero h fits = subst (SignedOf w n) (sym (sign-kept w n nonzero fits h)) (signed-of w n nonzero fits)

@@ -12,13 +12,13 @@ use Rattle.arena.proofs.text.text_is.Lts as lts
 use Rattle.arena.proofs.text.same.Reads as same-reads
 
 returns : tie.Need-returns
-returns c = let a = c .before .before .before .args in is-past (a .text .now) (a .offset) (a .length) (a .name .now) (omega arith)
+returns c = let a = c .before .before .before .args in is-past (a .text .now) (a .offset) (a .size) (a .name .now) (omega arith)
 
 returns-2 : tie.Need-returns-2
-returns-2 c = let a = c .before .before .before .before .args in is-past (a .text .now) (a .offset) (a .length) (a .name .now) (omega arith)
+returns-2 c = let a = c .before .before .before .before .args in is-past (a .text .now) (a .offset) (a .size) (a .name .now) (omega arith)
 
 returns-3 : tie.Need-returns-3
-returns-3 c = let a = c .before .before .before .before .before .before .args in let e : a .offset + a .length - a .offset ≡ a .length = omega arith in c .same .ensures ∙ ap (λ (n : ℕ). sameText (take n (drop (a .offset) (a .text .now))) (a .name .now)) e ∙ is-within (a .text .now) (a .offset) (a .length) (a .name .now) (omega arith)
+returns-3 c = let a = c .before .before .before .before .before .before .args in let e : a .offset + a .size - a .offset ≡ a .size = omega arith in c .same .ensures ∙ ap (λ (n : ℕ). sameText (take n (drop (a .offset) (a .text .now))) (a .name .now)) e ∙ is-within (a .text .now) (a .offset) (a .size) (a .name .now) (omega arith)
 
 pub text-is-spec : {M : Type 1} → statement M
 text-is-spec =

@@ -9,7 +9,7 @@ use Rattle.lent.proofs.put.Reads as put-reads
 use Rattle.value_text.proofs.write_inside.Reads as write-inside-reads
 
 returns : tie.Need-returns
-returns c = let a = c .before .before .before .before .before .before .before .before .before .before .before .before .before .before .before .before .before .before .before .before .before .before .before .before .before .before .args in arm-of (a .sorts .now) (a .members .now) (a .names .now) (a .nodes .now) (a .text .now) (a .offset) (a .length) (a .test) _ _ _ _ _ _ _ _ (c .before .before .before .before .before .before .before .before .before .before .before .before .before .before .before .before .write-when .ensures) (c .before .before .put .ensures) (a .value) (c .before .before .before .before .before .before .before .before .before .write-inside .ensures)
+returns c = let a = c .before .before .before .before .before .before .before .before .before .before .before .before .before .before .before .before .before .before .before .before .before .before .before .before .before .before .args in arm-of (a .sorts .now) (a .members .now) (a .names .now) (a .nodes .now) (a .text .now) (a .offset) (a .size) (a .test) _ _ _ _ _ _ _ _ (c .before .before .before .before .before .before .before .before .before .before .before .before .before .before .before .before .write-when .ensures) (c .before .before .put .ensures) (a .value) (c .before .before .before .before .before .before .before .before .before .write-inside .ensures)
 
 pub write-arm-spec : {M : Type 1} → statement M
 write-arm-spec =

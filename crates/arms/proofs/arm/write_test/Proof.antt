@@ -8,7 +8,7 @@ use Rattle.arms.proofs.arm.write_when.Reads as write-when-reads
 use Rattle.lent.proofs.put.Reads as put-reads
 
 returns : tie.Need-returns
-returns c = let a = c .before .before .before .before .before .before .before .before .before .before .before .before .before .before .before .before .before .before .before .before .before .before .before .before .args in test-of (a .sorts .now) (a .members .now) (a .names .now) (a .nodes .now) (a .text .now) (a .offset) (a .length) (a .test) _ _ _ _ _ _ _ _ (c .before .before .before .before .before .before .before .before .before .before .before .before .before .before .write-when .ensures) (c .before .before .put2 .ensures) (c .before .before .before .before .before .before .before .put .ensures)
+returns c = let a = c .before .before .before .before .before .before .before .before .before .before .before .before .before .before .before .before .before .before .before .before .before .before .before .before .args in test-of (a .sorts .now) (a .members .now) (a .names .now) (a .nodes .now) (a .text .now) (a .offset) (a .size) (a .test) _ _ _ _ _ _ _ _ (c .before .before .before .before .before .before .before .before .before .before .before .before .before .before .write-when .ensures) (c .before .before .put2 .ensures) (c .before .before .before .before .before .before .before .put .ensures)
 
 pub write-test-spec : {M : Type 1} → statement M
 write-test-spec =

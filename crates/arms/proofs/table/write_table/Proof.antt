@@ -12,10 +12,10 @@ use Rattle.commands.proofs.tests_at.Reads as tests-at-reads
 use Rattle.lent.proofs.put.Reads as put-reads
 
 returns : tie.Need-returns
-returns c = let a = c .before .before .before .before .before .before .before .before .before .before .before .before .before .before .before .before .before .before .before .before .before .before .before .before .before .before .before .before .before .before .args in table-tests (a .sorts .now) (a .members .now) (a .names .now) (a .nodes .now) (a .text .now) (a .offset) (a .length) (a .body) _ (c .before .before .before .before .before .before .before .before .before .before .before .before .before .before .before .before .before .before .before .before .before .before .tests-at .ensures) _ _ (c .before .before .before .before .before .before .before .before .before .before .before .before .before .before .before .before .before .before .before .before .tests .given .1) _ _ _ _ _ _ _ _ (c .before .before .before .before .before .before .before .before .before .before .before .before .before .before .before .before .write-tests .ensures) (c .before .before .before .before .before .before .before .before .before .settle .ensures) (c .before .before .put .ensures)
+returns c = let a = c .before .before .before .before .before .before .before .before .before .before .before .before .before .before .before .before .before .before .before .before .before .before .before .before .before .before .before .before .before .before .args in table-tests (a .sorts .now) (a .members .now) (a .names .now) (a .nodes .now) (a .text .now) (a .offset) (a .size) (a .body) _ (c .before .before .before .before .before .before .before .before .before .before .before .before .before .before .before .before .before .before .before .before .before .before .tests-at .ensures) _ _ (c .before .before .before .before .before .before .before .before .before .before .before .before .before .before .before .before .before .before .before .before .tests .given .1) _ _ _ _ _ _ _ _ (c .before .before .before .before .before .before .before .before .before .before .before .before .before .before .before .before .write-tests .ensures) (c .before .before .before .before .before .before .before .before .before .settle .ensures) (c .before .before .put .ensures)
 
 returns-2 : tie.Need-returns-2
-returns-2 c = let a = c .before .before .before .before .before .before .before .before .before .before .before .before .before .before .before .before .before .before .before .before .before .before .before .before .before .before .before .before .before .before .before .args in table-chain (a .sorts .now) (a .members .now) (a .names .now) (a .nodes .now) (a .text .now) (a .offset) (a .length) (a .body) _ (c .before .before .before .before .before .before .before .before .before .before .before .before .before .before .before .before .before .before .before .before .before .before .before .tests-at .ensures) (c .before .before .before .before .before .before .before .before .before .before .before .before .before .before .before .before .before .before .before .before .before .enum-told .given .1) _ _ _ _ _ _ _ (c .before .before .before .before .before .before .before .before .before .before .before .before .before .before .before .before .before .before .write-chain .result) (c .before .before .before .before .before .before .before .before .before .before .before .before .before .before .before .before .before .before .write-chain .ensures) (c .before .before .before .before .before .before .before .before .before .before .before .settle2 .ensures) (c .before .before .before .before .write-else .ensures)
+returns-2 c = let a = c .before .before .before .before .before .before .before .before .before .before .before .before .before .before .before .before .before .before .before .before .before .before .before .before .before .before .before .before .before .before .before .args in table-chain (a .sorts .now) (a .members .now) (a .names .now) (a .nodes .now) (a .text .now) (a .offset) (a .size) (a .body) _ (c .before .before .before .before .before .before .before .before .before .before .before .before .before .before .before .before .before .before .before .before .before .before .before .tests-at .ensures) (c .before .before .before .before .before .before .before .before .before .before .before .before .before .before .before .before .before .before .before .before .before .enum-told .given .1) _ _ _ _ _ _ _ (c .before .before .before .before .before .before .before .before .before .before .before .before .before .before .before .before .before .before .write-chain .result) (c .before .before .before .before .before .before .before .before .before .before .before .before .before .before .before .before .before .before .write-chain .ensures) (c .before .before .before .before .before .before .before .before .before .before .before .settle2 .ensures) (c .before .before .before .before .write-else .ensures)
 
 pub write-table-spec : {M : Type 1} → statement M
 write-table-spec =

@@ -8,10 +8,10 @@ use Rattle.arena.proofs.after.Reads as after-reads
 use Rattle.shapes.proofs.symbol_at.Reads as symbol-at-reads
 
 returns : tie.Need-returns
-returns c = let a = c .before .before .before .before .args in argument-none (a .nodes .now) (a .length) (a .offset) (a .first) (a .sort) (a .body) _ (c .before .before .symbol-at .ensures) (c .enum-told .given .1)
+returns c = let a = c .before .before .before .before .args in argument-none (a .nodes .now) (a .size) (a .offset) (a .first) (a .sort) (a .body) _ (c .before .before .symbol-at .ensures) (c .enum-told .given .1)
 
 returns-2 : tie.Need-returns-2
-returns-2 c = let a = c .before .before .before .before .before .before .args in argument-word (a .nodes .now) (a .length) (a .offset) (a .first) (a .sort) (a .body) _ (c .before .before .before .before .symbol-at .ensures) _ _ (c .before .before .word .given .1) _ (c .after .ensures)
+returns-2 c = let a = c .before .before .before .before .before .before .args in argument-word (a .nodes .now) (a .size) (a .offset) (a .first) (a .sort) (a .body) _ (c .before .before .before .before .symbol-at .ensures) _ _ (c .before .before .word .given .1) _ (c .after .ensures)
 
 pub argument-spec : {M : Type 1} → statement M
 argument-spec =

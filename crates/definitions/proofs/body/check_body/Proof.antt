@@ -11,13 +11,13 @@ use Rattle.definitions.proofs.body.is_bool.Reads as is-bool-reads
 use Rattle.tables.proofs.sort_at.Reads as sort-at-reads
 
 returns : tie.Need-returns
-returns c = let a = c .before .before .before .before .before .before .before .before .before .before .before .before .before .before .args in body-tests (a .sorts .now) (a .fields .now) (a .members .now) (a .names .now) (a .nodes .now) (a .text .now) (a .offset) (a .length) (a .argument) (a .result) (a .body) (c .before .before .before .before .before .before .before .tests-at .result) (c .before .before .before .before .before .before .before .tests-at .ensures) _ _ (c .before .before .before .before .before .tests .given .1) (c .before .before .before .sort-at .result) (c .before .before .before .sort-at .ensures) _ (c .before .before .is-bool .ensures) (c .before .if1 .taken) (c .check-tests .result) (c .check-tests .ensures)
+returns c = let a = c .before .before .before .before .before .before .before .before .before .before .before .before .before .before .args in body-tests (a .sorts .now) (a .fields .now) (a .members .now) (a .names .now) (a .nodes .now) (a .text .now) (a .offset) (a .size) (a .argument) (a .result) (a .body) (c .before .before .before .before .before .before .before .tests-at .result) (c .before .before .before .before .before .before .before .tests-at .ensures) _ _ (c .before .before .before .before .before .tests .given .1) (c .before .before .before .sort-at .result) (c .before .before .before .sort-at .ensures) _ (c .before .before .is-bool .ensures) (c .before .if1 .taken) (c .check-tests .result) (c .check-tests .ensures)
 
 returns-2 : tie.Need-returns-2
-returns-2 c = let a = c .before .before .before .before .before .before .before .before .before .before .before .before .before .args in body-other (a .sorts .now) (a .fields .now) (a .members .now) (a .names .now) (a .nodes .now) (a .text .now) (a .offset) (a .length) (a .argument) (a .result) (a .body) (c .before .before .before .before .before .before .tests-at .result) (c .before .before .before .before .before .before .tests-at .ensures) _ _ (c .before .before .before .before .tests .given .1) (c .before .before .sort-at .result) (c .before .before .sort-at .ensures) _ (c .before .is-bool .ensures) (c .if1 .left)
+returns-2 c = let a = c .before .before .before .before .before .before .before .before .before .before .before .before .before .args in body-other (a .sorts .now) (a .fields .now) (a .members .now) (a .names .now) (a .nodes .now) (a .text .now) (a .offset) (a .size) (a .argument) (a .result) (a .body) (c .before .before .before .before .before .before .tests-at .result) (c .before .before .before .before .before .before .tests-at .ensures) _ _ (c .before .before .before .before .tests .given .1) (c .before .before .sort-at .result) (c .before .before .sort-at .ensures) _ (c .before .is-bool .ensures) (c .if1 .left)
 
 returns-3 : tie.Need-returns-3
-returns-3 c = let a = c .before .before .before .before .before .before .before .before .before .before .args in body-chain (a .sorts .now) (a .fields .now) (a .members .now) (a .names .now) (a .nodes .now) (a .text .now) (a .offset) (a .length) (a .argument) (a .result) (a .body) (c .before .before .before .tests-at .result) (c .before .before .before .tests-at .ensures) (c .before .enum-told .given .1) (c .check-chain .result) (c .check-chain .ensures)
+returns-3 c = let a = c .before .before .before .before .before .before .before .before .before .before .args in body-chain (a .sorts .now) (a .fields .now) (a .members .now) (a .names .now) (a .nodes .now) (a .text .now) (a .offset) (a .size) (a .argument) (a .result) (a .body) (c .before .before .before .tests-at .result) (c .before .before .before .tests-at .ensures) (c .before .enum-told .given .1) (c .check-chain .result) (c .check-chain .ensures)
 
 pub check-body-spec : {M : Type 1} → statement M
 check-body-spec =

@@ -8,13 +8,13 @@ use Rattle.shapes.proofs.sort.sort_one.Lts as lts
 use Rattle.arena.proofs.text_is.Reads as text-is-reads
 
 returns : tie.Need-returns
-returns c = let a = c .before .before .before .before .before .args in one-option (a .nodes .now) (a .text .now) (a .offset) (a .length) (a .first) (sym (c .before .text-is .ensures) ∙ c .if1 .taken)
+returns c = let a = c .before .before .before .before .before .args in one-option (a .nodes .now) (a .text .now) (a .offset) (a .size) (a .first) (sym (c .before .text-is .ensures) ∙ c .if1 .taken)
 
 returns-2 : tie.Need-returns-2
-returns-2 c = let a = c .before .before .before .before .before .before .before .before .args in one-set (a .nodes .now) (a .text .now) (a .offset) (a .length) (a .first) (sym (c .before .before .before .before .text-is .ensures) ∙ c .before .before .before .if1 .left) (sym (c .before .text-is2 .ensures) ∙ c .if2 .taken)
+returns-2 c = let a = c .before .before .before .before .before .before .before .before .args in one-set (a .nodes .now) (a .text .now) (a .offset) (a .size) (a .first) (sym (c .before .before .before .before .text-is .ensures) ∙ c .before .before .before .if1 .left) (sym (c .before .text-is2 .ensures) ∙ c .if2 .taken)
 
 returns-3 : tie.Need-returns-3
-returns-3 c = let a = c .before .before .before .before .before .before .before .before .args in one-none (a .nodes .now) (a .text .now) (a .offset) (a .length) (a .first) (sym (c .before .before .before .before .text-is .ensures) ∙ c .before .before .before .if1 .left) (sym (c .before .text-is2 .ensures) ∙ c .if2 .left)
+returns-3 c = let a = c .before .before .before .before .before .before .before .before .args in one-none (a .nodes .now) (a .text .now) (a .offset) (a .size) (a .first) (sym (c .before .before .before .before .text-is .ensures) ∙ c .before .before .before .if1 .left) (sym (c .before .text-is2 .ensures) ∙ c .if2 .left)
 
 pub sort-one-spec : {M : Type 1} → statement M
 sort-one-spec =

@@ -1361,7 +1361,7 @@ write-made-returns : (t : ℕ) → write-made-lts.Need-returns (
   write-record-below t,
   write-record.Post,
 ) (write-made-at t) write-made.Post
-write-made-returns t c = let a = c .before .before .before .before .before .before .before .before .before .before .before .before .before .before .before .before .before .args in made-entity (a .sorts .now) (a .members .now) (a .names .now) (a .nodes .now) (a .text .now) (a .offset) (a .length) (a .first) (a .count) (a .allow) _ _ _ _ (range-holds (a .text .now) _ _ _ (c .before .before .before .before .before .before .before .before .before .clamp .ensures)) (c .before .before .before .before .before .before .before .made-of .result) (c .before .before .before .before .before .before .before .made-of .ensures) _ (c .before .before .before .before .before .made .given .1) (c .before .before .write-named .ensures)
+write-made-returns t c = let a = c .before .before .before .before .before .before .before .before .before .before .before .before .before .before .before .before .before .args in made-entity (a .sorts .now) (a .members .now) (a .names .now) (a .nodes .now) (a .text .now) (a .offset) (a .size) (a .first) (a .count) (a .allow) _ _ _ _ (range-holds (a .text .now) _ _ _ (c .before .before .before .before .before .before .before .before .before .clamp .ensures)) (c .before .before .before .before .before .before .before .made-of .result) (c .before .before .before .before .before .before .before .made-of .ensures) _ (c .before .before .before .before .before .made .given .1) (c .before .before .write-named .ensures)
 
 write-made-same-length-2 : (t : ℕ) → write-made-lts.Need-same-length-2 (
   clamp-reads.Asked,
@@ -1397,7 +1397,7 @@ write-made-returns-2 : (t : ℕ) → write-made-lts.Need-returns-2 (
   write-record-below t,
   write-record.Post,
 ) (write-made-at t) write-made.Post
-write-made-returns-2 t c = let a = c .before .before .before .before .before .before .before .before .before .before .before .before .before .before .before .before .before .before .before .before .args in made-record (a .sorts .now) (a .members .now) (a .names .now) (a .nodes .now) (a .text .now) (a .offset) (a .length) (a .first) (a .count) (a .allow) _ _ _ _ (range-holds (a .text .now) _ _ _ (c .before .before .before .before .before .before .before .before .before .before .before .before .clamp .ensures)) (c .before .before .before .before .before .before .before .before .before .before .made-of .result) (c .before .before .before .before .before .before .before .before .before .before .made-of .ensures) _ (c .before .before .before .before .before .before .before .before .made2 .given .1) (c .before .before .before .before .write-record .ensures)
+write-made-returns-2 t c = let a = c .before .before .before .before .before .before .before .before .before .before .before .before .before .before .before .before .before .before .before .before .args in made-record (a .sorts .now) (a .members .now) (a .names .now) (a .nodes .now) (a .text .now) (a .offset) (a .size) (a .first) (a .count) (a .allow) _ _ _ _ (range-holds (a .text .now) _ _ _ (c .before .before .before .before .before .before .before .before .before .before .before .before .clamp .ensures)) (c .before .before .before .before .before .before .before .before .before .before .made-of .result) (c .before .before .before .before .before .before .before .before .before .before .made-of .ensures) _ (c .before .before .before .before .before .before .before .before .made2 .given .1) (c .before .before .before .before .write-record .ensures)
 
 write-made-returns-3 : (t : ℕ) → write-made-lts.Need-returns-3 (
   clamp-reads.Asked,
@@ -1409,7 +1409,7 @@ write-made-returns-3 : (t : ℕ) → write-made-lts.Need-returns-3 (
   write-record-below t,
   write-record.Post,
 ) (write-made-at t) write-made.Post
-write-made-returns-3 t c = let a = c .before .before .before .before .before .before .before .before .before .before .before .before .args in made-nothing (a .sorts .now) (a .members .now) (a .names .now) (a .nodes .now) (a .text .now) (a .offset) (a .length) (a .first) (a .count) (a .allow) _ _ _ _ (range-holds (a .text .now) _ _ _ (c .before .before .before .before .clamp .ensures)) (c .before .before .made-of .result) (c .before .before .made-of .ensures) (c .enum-told .given .1)
+write-made-returns-3 t c = let a = c .before .before .before .before .before .before .before .before .before .before .before .before .args in made-nothing (a .sorts .now) (a .members .now) (a .names .now) (a .nodes .now) (a .text .now) (a .offset) (a .size) (a .first) (a .count) (a .allow) _ _ _ _ (range-holds (a .text .now) _ _ _ (c .before .before .before .before .clamp .ensures)) (c .before .before .made-of .result) (c .before .before .made-of .ensures) (c .enum-told .given .1)
 
 write-members-shape-at-requires : (t : ℕ) → write-members-lts.Need-shape-at-requires (
   shape-at-reads.Asked,
