@@ -1,9 +1,14 @@
 # What people type. Each target says what it needs.
-.PHONY: test list library example bindings stack oracle vectors confirm compare bench
+.PHONY: test tidy list library example bindings stack oracle vectors confirm compare bench
 
-# Proves every crate, tries every must-fail edit, runs every program: the gate. Needs the Rattle toolchain.
+# Proves every crate, tries every must-fail edit, runs every program: the gate. Needs the Rattle toolchain and Python.
 test:
 	bash .ci/run
+
+# The functions' proofs shortened, and crates.txt and README's picture set right, as the gate asks for them. Needs Python.
+tidy:
+	python3 tools/tidy.py
+	python3 tools/deps.py --write
 
 # The listing of a solver's reply REPLY over the tables TABLES. Proves the program first, where it is not proved yet. Needs the toolchain.
 list:

@@ -1,8 +1,8 @@
 #!/usr/bin/env python3
-"""deps.py [--write | --picture]: what each crate of crates.txt names directly, in its code, its definitions and its proofs.
+"""deps.py [--write]: what each crate of crates.txt names directly, in its code, its definitions and its proofs.
 
-Without an option: fails where crates.txt names a crate that is not named there, or leaves one out. --write sets the names in
-crates.txt right. --picture prints each crate with those crates it names that none of its other crates reaches: what README draws."""
+Fails where crates.txt names a crate that is not named there, or leaves one out, and where README's picture is not the one drawn from
+it: each crate, the top one first, with an arrow to those that it stands on directly, reached by no longer way. --write sets both right."""
 import glob
 import re
 import sys
@@ -10,6 +10,7 @@ import sys
 KIT = ["check", "libc", "io", "os", "bytes"]
 # A crate that reaches into a value of a type which it does not name: `replay::number(..).low` is a field of words::Pair.
 BY_TYPE = {"replay_lines": ["words"], "replay_trees": ["words"]}
+START, END = "<!-- drawn by tools/deps.py -->", "<!-- end of the picture -->"
 LINE = re.compile(r"^([a-z0-9_]+):([^#\n]*)(#.*)?$")
 
 
@@ -27,6 +28,14 @@ def named(crate, known):
     return [d for d in known if d in found and d not in own]
 
 
+def picture(crates, direct, reach):
+    rows = []
+    for c in reversed(crates):
+        over = [d for d in direct[c] if d not in KIT and not any(d in reach.get(e, ()) for e in direct[c])]
+        rows.append("    " + (c.ljust(16) + ("-> " + ", ".join(over) if over else "")).rstrip())
+    return "\n\n" + "\n".join(rows) + "\n\n"
+
+
 def main():
     with open("crates.txt", encoding="utf8") as f:
         lines = f.read().split("\n")
@@ -39,10 +48,6 @@ def main():
         for d in direct[c]:
             below |= {d} | reach.get(d, set())
         reach[c] = below
-    if "--picture" in sys.argv:
-        for c in crates:
-            print(c + ":", " ".join(d for d in direct[c] if not any(d in reach.get(e, ()) for e in direct[c])))
-        return
     wrong, out = 0, []
     for line in lines:
         m = LINE.match(line)
@@ -52,9 +57,19 @@ def main():
             print(m.group(1), "less:", " ".join(sorted(said - want)), "more:", " ".join(sorted(want - said)))
             line = (m.group(1) + ": " + " ".join(direct[m.group(1)])).ljust(30).rstrip() + "  " + (m.group(3) or "")
         out.append(line)
+    drawn = picture(crates, direct, reach)
+    with open("README.md", encoding="utf8") as f:
+        readme = f.read()
+    head, _, rest = readme.partition(START)
+    _, _, tail = rest.partition(END)
+    if readme != head + START + drawn + END + tail:
+        wrong += 1
+        print("README's picture is another")
     if "--write" in sys.argv:
         with open("crates.txt", "w", encoding="utf8") as f:
             f.write("\n".join(out))
+        with open("README.md", "w", encoding="utf8") as f:
+            f.write(head + START + drawn + END + tail)
     print(len(crates), "crates,", sum(map(len, direct.values())), "names,", wrong, "lines", "set right" if "--write" in sys.argv else "wrong")
     sys.exit(1 if wrong and "--write" not in sys.argv else 0)
 

@@ -17,18 +17,25 @@ pub const STRIDE: usize = 4;
 
 // The kinds, as word 0 has them.
 pub const BIT_VEC: u64 = 1;
+
 pub const NUMERAL: u64 = 2;
+
 pub const STRING: u64 = 3;
+
 pub const SYMBOL: u64 = 4;
+
 pub const APP: u64 = 5;
 
 // The places of the words behind the kind.
 pub const FIRST: usize = 1;
+
 pub const SECOND: usize = 2;
+
 pub const THIRD: usize = 3;
 
 // Where an application counts its children, and where it has its end.
 pub const CHILDREN: usize = FIRST;
+
 pub const END: usize = SECOND;
 
 // A node whose kind leaves a word unused, where that word is 0.
@@ -104,14 +111,8 @@ pub fn after(words: &[u64], at: usize) -> usize
             high: _,
         } => at + 1,
         Node::Numeral { low: _, high: _ } => at + 1,
-        Node::String {
-            size: _,
-            offset: _,
-        } => at + 1,
-        Node::Symbol {
-            size: _,
-            offset: _,
-        } => at + 1,
+        Node::String { size: _, offset: _ } => at + 1,
+        Node::Symbol { size: _, offset: _ } => at + 1,
         Node::App { children: _, end } => end as usize,
         Node::NoNode => at,
     }

@@ -11,7 +11,7 @@ use Rattle.arena.specs.Node.{afterAt}
 use Rattle.arena_check.specs.Right.{Tells, Link, Chain}
 use Rattle.arena_check.proofs.Told.{tells-no}
 
--- what is left of a chain after nonzero of its links stands for the whole
+-- what is left of a chain after some of its links stands for the whole
 pub record Left (count : ℕ) (ws : List ℕ) (from end left at : ℕ) : Type 0 where
   pub whole : Chain left ws at end → Chain count ws from end
   pub rest : Chain count ws from end → Chain left ws at end

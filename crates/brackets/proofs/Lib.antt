@@ -7,3 +7,4 @@ pub mod Upto
 pub mod Laid
 pub mod Agree
 pub mod Next
+pub mod One

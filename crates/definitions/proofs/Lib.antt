@@ -4,3 +4,4 @@ pub mod Arms
 pub mod Chains
 pub mod Tests
 pub mod Functions
+pub mod One

@@ -15,7 +15,11 @@ pub fn value_of(literal: Literal, wanted: usize) -> Measured
     ensures { λ r. ⌜ ValueOf literal wanted r ⌝ }
 {
     match literal {
-        Literal::Value { row, need, is_set: _ } => {
+        Literal::Value {
+            row,
+            need,
+            is_set: _,
+        } => {
             if row != wanted {
                 return Measured::Refused(Refusal::UnmatchedType);
             }
@@ -33,7 +37,11 @@ pub fn arm_of(key: Literal, value: Literal, argument: usize, result: usize) -> M
     ensures { λ r. ⌜ ArmOf key value argument result r ⌝ }
 {
     match key {
-        Literal::Value { row, need, is_set: _ } => match value {
+        Literal::Value {
+            row,
+            need,
+            is_set: _,
+        } => match value {
             Literal::Value {
                 row: other,
                 need: more,

@@ -122,11 +122,11 @@ member-unsorted : Sorted (tables "E" 0) 0 (vEntity 0 (bytes "x")) → ⊥
 unfolding at
 member-unsorted h = let e = h .here in let z : _≡_ {A = ℕ} 0 1 = cc in absurd (omega arith)
 
--- a string that is not of bytes, which no arena holds
+-- a string that is not UTF-8, which no arena holds
 abbrev strings : Tables
 strings = record { sorts = string ∷ []; variables = record { name = bytes "v"; sort = 0 } ∷ []; functions = []; members = [] }
 
-string-read : (lawful strings ≡ true) × (readModel strings (variable "String" (quoted (256 ∷ []))) ≡ ok (isVariable 0 (vString (256 ∷ [])) ∷ []))
+string-read : (lawful strings ≡ true) × (readModel strings (variable "String" (quoted (0xFF ∷ []))) ≡ ok (isVariable 0 (vString (0xFF ∷ [])) ∷ []))
 unfolding lawful sortsRight all distinct any oneSymbol inSymbol classOf utf8 octets kept keptWords find at sameText sortRow variableRow shape sortShape _>>=_ unless readSort read command readCommands readModel
 string-read = (refl, refl)
 

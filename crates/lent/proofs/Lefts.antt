@@ -12,10 +12,21 @@ use Rattle.refusals.specs.declared.Refusal.{Refusal}
 use Rattle.lent.specs.declared.Written.{Written}
 use Rattle.lent.specs.declared.Written.the-variants.{Length, Refused}
 use Rattle.lent.specs.Left.{Left, onto, refusing, writing, Leaves}
+use Rattle.lent.specs.Put.{Puts, Fronts, Offers}
 
 -- any two results that a contract by `Leaves` allows are equal, and so are the buffers
 pub one-left : {left : Left} {r s : Written} {d e : List ℕ} → Leaves left r d → Leaves left s e → (r ≡ s) × (d ≡ e)
 one-left p q = (one-result (p .answers) (q .answers), one-result (p .holds) (q .holds))
+
+-- the same of a text at the front and of a piece at a place, with and without the question of room
+pub one-front : {text entry d e : List ℕ} {m n : ℕ} → Fronts text entry d m → Fronts text entry e n → (m ≡ n) × (d ≡ e)
+one-front p q = (one-result (p .long) (q .long), one-result (p .holds) (q .holds))
+
+pub one-put : {entry d e : List ℕ} {at : ℕ} {bytes : List ℕ} {m n : ℕ} → Puts entry d at bytes m → Puts entry e at bytes n → (m ≡ n) × (d ≡ e)
+one-put p q = (one-result (p .after) (q .after), one-result (p .holds) (q .holds))
+
+pub one-offer : (entry d e : List ℕ) (at : ℕ) (bytes : List ℕ) (m n : ℕ) → at + length bytes ≤ length entry → Offers entry d at bytes m → Offers entry e at bytes n → (m ≡ n) × (d ≡ e)
+one-offer entry d e at bytes m n room p q = one-put (p room) (q room)
 
 -- a call for a text serves for one that is equal
 pub leaves-as : (short : ℕ → Refusal) {a b : List ℕ} (buffer : List ℕ) {r : Written} {exit : List ℕ} → a ≡ b → Leaves (writing short a buffer) r exit → Leaves (writing short b buffer) r exit

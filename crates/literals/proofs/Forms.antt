@@ -118,7 +118,7 @@ module _ (sorts : List ℕ) (expected : Expected) (form : Form) where
         ap (inSort l) e
         ∙ inner-missing (insideOf form (at (tablesOf l .sorts) row)) (found-none (insideOf form (at (tablesOf l .sorts) row)) q (inside l h) f)
 
--- none and the empty isSet, where the row is of the form
+-- none and the empty set, where the row is of the form
 bare-option : (row : ℕ) (o : Option ℕ) → bareAnswer Form.Option row (asFound o) ≡ answer (found InvalidOptionType o >>= λ q. ok (lit row vNone))
 unfolding _>>=_
 bare-option row none = refl

@@ -9,3 +9,4 @@ pub mod Plans
 pub mod Fields
 pub mod Walks
 pub mod Decodes
+pub mod One

@@ -16,7 +16,7 @@ use Rattle.literals.specs.Answer.{answer, need, some?}
 use Rattle.literals.specs.Parts.{UnionNeed, UnionOf}
 use Rattle.literals.proofs.Answers.{value-told, refused-told}
 
--- what a isSet holds
+-- what a set holds
 none-held : (o : Option Values) → some? o ≡ false → o ≡ none
 none-held none e = refl
 none-held (some vs) e = absurd (true≢false e)

@@ -11,7 +11,11 @@ ghost use Rattle.literals.specs.Answer.{capped, ValueOf};
 
 // The row of the sort, how long the text is with repeats kept, and whether it is a set.
 pub enum Literal {
-    Value { row: usize, need: usize, is_set: bool },
+    Value {
+        row: usize,
+        need: usize,
+        is_set: bool,
+    },
     Refused(Refusal),
 }
 

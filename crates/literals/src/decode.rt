@@ -38,7 +38,11 @@ fn field_of(literal: Literal, wanted: usize) -> Field
     ensures { λ r. ⌜ r ≡ fieldAnswer literal wanted ⌝ }
 {
     match literal {
-        Literal::Value { row, need, is_set: _ } => {
+        Literal::Value {
+            row,
+            need,
+            is_set: _,
+        } => {
             if row != wanted {
                 return Field::Refused(Refusal::UnmatchedFieldType);
             }

@@ -166,7 +166,11 @@ pub fn finish(sorts: &[u64], inner: Literal, then: Then) -> Literal
     ensures { λ r. ⌜ Finishes (now (sorts .entry)) inner «then» r ⌝ }
 {
     match inner {
-        Literal::Value { row, need, is_set: _ } => {
+        Literal::Value {
+            row,
+            need,
+            is_set: _,
+        } => {
             let inside = row as u64;
             match then {
                 Then::Some => value_of(sorts, Wanted::Option(inside), plus(need, 6), false),
@@ -195,7 +199,14 @@ fn union_need(a: usize, b: usize) -> usize
 }
 
 // Two literals of rows and needs, of which each is a set or not.
-fn joined(row: usize, need: usize, is_set: bool, other: usize, more: usize, another: bool) -> Literal
+fn joined(
+    row: usize,
+    need: usize,
+    is_set: bool,
+    other: usize,
+    more: usize,
+    another: bool,
+) -> Literal
     ensures { λ r. ⌜ UnionOf (Literal.Value row need «is_set») (Literal.Value other more another) r ⌝ }
 {
     if row != other {

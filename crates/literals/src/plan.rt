@@ -67,10 +67,7 @@ fn entity_of(nodes: &[u64], row: usize, first: usize, count: u64) -> Literal
             need: text_need(row, size as usize),
             is_set: false,
         },
-        Node::Symbol {
-            size: _,
-            offset: _,
-        } => Literal::Refused(Refusal::UnknownLiteral),
+        Node::Symbol { size: _, offset: _ } => Literal::Refused(Refusal::UnknownLiteral),
         Node::App {
             children: _,
             end: _,

@@ -4,7 +4,7 @@ use mathlib.Core.List.{List, [], _∷_}
 use Prim.Native.Nat.{ℕ, _-_, _^_}
 use Rattle.ground.specs.Bytes.{bytes}
 use Rattle.ground.specs.Lists.{joined, find, at}
-use Rattle.refusals.specs.declared.Refusal.the-variants.{UnexpectedModel}
+use Rattle.refusals.specs.declared.Refusal.the-variants.{UnexpectedModel, UnmatchedType}
 use Rattle.arena.specs.Text.{sameText}
 use Rattle.arena.specs.Tree.{Tree, bitVec, numeral}
 use Rattle.decimals.specs.Decimal.{decimal, lastDigits, digitCountWithin}
@@ -72,3 +72,23 @@ later-stays = refl
 later-checked : listed (readModel tables (of (define 1 ∷ of (word "define-fun" ∷ word "x" ∷ []) ∷ []))) ≡ refused UnexpectedModel
 unfolding joined find at sameText decimal lastDigits digitCountWithin before insert arranged sortRow namedSort variableRow functionRow memberRow shape sortShape _>>=_ unless readSort normal arrangedValues text hex hexDigit read command chain tests key readChain readTests readCommands readModel lastVariable lastFunction rendered listing
 later-checked = refl
+
+-- a default of the argument's sort, and an arm's value of it
+abbrev body : Tree → Tree
+body b = of (of (word "define-fun" ∷ word "f" ∷ of (of (word "a" ∷ eight ∷ []) ∷ []) ∷ word "Bool" ∷ b ∷ []) ∷ [])
+
+wrong-default : listed (readModel tables (body (bitVec 8 1))) ≡ refused UnmatchedType
+unfolding joined find at sameText decimal lastDigits digitCountWithin before insert arranged sortRow namedSort variableRow functionRow memberRow shape sortShape _>>=_ unless readSort normal arrangedValues text hex hexDigit read command chain tests key readChain readTests readCommands readModel lastVariable lastFunction rendered listing
+wrong-default = refl
+
+wrong-value : listed (readModel tables (body (of (word "ite" ∷ of (word "=" ∷ word "a" ∷ bitVec 8 1 ∷ []) ∷ bitVec 8 1 ∷ word "true" ∷ [])))) ≡ refused UnmatchedType
+unfolding joined find at sameText decimal lastDigits digitCountWithin before insert arranged sortRow namedSort variableRow functionRow memberRow shape sortShape _>>=_ unless readSort normal arrangedValues text hex hexDigit read command chain tests key readChain readTests readCommands readModel lastVariable lastFunction rendered listing
+wrong-value = refl
+
+-- `or` where the argument is a bool and the result is none
+wrong-or :
+    readModel (record { sorts = bool ∷ bits 8 ∷ []; variables = []; functions = record { name = bytes "f"; argument = 0; result = 1 } ∷ []; members = [] })
+    (of (of (word "define-fun" ∷ word "f" ∷ of (of (word "a" ∷ word "Bool" ∷ []) ∷ []) ∷ eight ∷ of (word "or" ∷ []) ∷ []) ∷ []))
+    ≡ refused UnmatchedType
+unfolding joined find at sameText decimal lastDigits digitCountWithin before insert arranged sortRow namedSort variableRow functionRow memberRow shape sortShape _>>=_ unless readSort normal arrangedValues text hex hexDigit read command chain tests key readChain readTests readCommands readModel lastVariable lastFunction rendered listing
+wrong-or = refl

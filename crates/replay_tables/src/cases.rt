@@ -1,303 +1,121 @@
 // One case: its first byte says what is asked, and its fields are in hexadecimal, a space between two.
 use crate::fields;
+use crate::rooms;
+use crate::rooms::Words;
 use crate::shows;
 use tables::Found;
 use tables::Wanted;
 use tables_text::TablesRead;
 ghost use Prim.Native.Nat.{_≤_};
+ghost use Rattle.replay_tables.specs.Rooms.{Within};
 
 // `T` a text read in plenty of room, `R` one in rooms of its own, `K` the check of words, `F` what is found in a text's tables.
-pub fn answer(
-    case: &[u8],
-    text: &mut [u8],
-    sorts: &mut [u64],
-    fields: &mut [u64],
-    variables: &mut [u64],
-    functions: &mut [u64],
-    members: &mut [u64],
-    line: &mut [u8],
-) {
+pub fn answer(case: &[u8], line: &mut [u8]) {
     if case.len() < 2 {
         return;
     }
     let kind = case[0];
     if kind == b'K' {
-        return words(
-            &case[2..],
-            text,
-            sorts,
-            fields,
-            variables,
-            functions,
-            members,
-            line,
-        );
+        return words(&case[2..], line);
     }
     if kind == b'F' {
-        return search(
-            &case[2..],
-            text,
-            sorts,
-            fields,
-            variables,
-            functions,
-            members,
-            line,
-        );
+        return search(&case[2..], line);
     }
-    reads(
-        kind,
-        &case[2..],
-        text,
-        sorts,
-        fields,
-        variables,
-        functions,
-        members,
-        line,
-    );
-}
-
-fn reads(
-    kind: u8,
-    case: &[u8],
-    text: &mut [u8],
-    sorts: &mut [u64],
-    fields: &mut [u64],
-    variables: &mut [u64],
-    functions: &mut [u64],
-    members: &mut [u64],
-    line: &mut [u8],
-) {
     if kind == b'R' {
-        return in_rooms(
-            case,
-            text,
-            sorts,
-            fields,
-            variables,
-            functions,
-            members,
-            line,
-        );
+        return in_rooms(&case[2..], line);
     }
-    in_plenty(
-        case,
-        text,
-        sorts,
-        fields,
-        variables,
-        functions,
-        members,
-        line,
-    );
+    in_plenty(&case[2..], line);
 }
 
-fn in_plenty(
-    case: &[u8],
-    text: &mut [u8],
-    sorts: &mut [u64],
-    fields: &mut [u64],
-    variables: &mut [u64],
-    functions: &mut [u64],
-    members: &mut [u64],
-    line: &mut [u8],
-) {
+fn in_plenty(case: &[u8], line: &mut [u8]) {
+    let plenty = Words {
+        sorts: rooms::ROWS,
+        fields: rooms::FIELDS,
+        variables: rooms::ROWS,
+        functions: rooms::ROWS,
+        members: rooms::ROWS,
+    };
+    let mut text = rooms::text_bytes();
     let zero = 0;
-    let count = fields::put_bytes(case, zero, text);
-    in_marked(
-        &text[zero..count],
-        sorts,
-        fields,
-        variables,
-        functions,
-        members,
-        line,
-    );
+    let count = fields::put_bytes(case, zero, &mut text);
+    read(&text[zero..count], plenty, line);
 }
 
-fn in_rooms(
-    case: &[u8],
-    text: &mut [u8],
-    sorts: &mut [u64],
-    fields: &mut [u64],
-    variables: &mut [u64],
-    functions: &mut [u64],
-    members: &mut [u64],
-    line: &mut [u8],
-) {
+// The first field has the five rooms in words.
+fn in_rooms(case: &[u8], line: &mut [u8]) {
+    let mut asked = [0u64; 5];
+    fields::put_words(case, 0, &mut asked);
+    let lent = Words {
+        sorts: fields::least(asked[0], rooms::ROWS),
+        fields: fields::least(asked[1], rooms::FIELDS),
+        variables: fields::least(asked[2], rooms::ROWS),
+        functions: fields::least(asked[3], rooms::ROWS),
+        members: fields::least(asked[4], rooms::ROWS),
+    };
+    let mut text = rooms::text_bytes();
     let zero = 0;
-    let count = fields::put_bytes(case, fields::after(case, zero), text);
-    in_lent(
-        case,
-        &text[zero..count],
-        sorts,
-        fields,
-        variables,
-        functions,
-        members,
-        line,
-    );
+    let count = fields::put_bytes(case, replay::next_field(case, zero), &mut text);
+    read(&text[zero..count], lent, line);
 }
 
-// A room in words, as far as there are so many; the first field has all five.
-fn room(case: &[u8], place: usize, most: usize) -> usize
-    ensures { λ r. ⌜ r ≤ most ⌝ }
+fn read(text: &[u8], lent: Words, line: &mut [u8])
+    requires { ⌜ Within lent ⌝ }
 {
-    let mut rooms = [0u64; 5];
-    fields::put_words(case, 0, &mut rooms);
-    if 5 <= place {
-        return 0;
-    }
-    fields::least(rooms[place], most)
-}
-
-fn in_lent(
-    case: &[u8],
-    text: &[u8],
-    sorts: &mut [u64],
-    fields: &mut [u64],
-    variables: &mut [u64],
-    functions: &mut [u64],
-    members: &mut [u64],
-    line: &mut [u8],
-) {
+    let mut sorts = rooms::row_words();
+    let mut fields = rooms::field_words();
+    let mut variables = rooms::row_words();
+    let mut functions = rooms::row_words();
+    let mut members = rooms::row_words();
     let zero = 0;
-    let a = room(case, 0, sorts.len());
-    let b = room(case, 1, fields.len());
-    let c = room(case, 2, variables.len());
-    let d = room(case, 3, functions.len());
-    let e = room(case, 4, members.len());
-    in_marked(
+    let a = lent.sorts;
+    let b = lent.fields;
+    let c = lent.variables;
+    let d = lent.functions;
+    let e = lent.members;
+    let found = tables_text::read_tables(
         text,
         &mut sorts[zero..a],
         &mut fields[zero..b],
         &mut variables[zero..c],
         &mut functions[zero..d],
         &mut members[zero..e],
-        line,
     );
-}
-
-// All that is lent is marked first, so that it shows what was written.
-fn in_marked(
-    text: &[u8],
-    sorts: &mut [u64],
-    fields: &mut [u64],
-    variables: &mut [u64],
-    functions: &mut [u64],
-    members: &mut [u64],
-    line: &mut [u8],
-) {
-    mark_all(sorts, fields, variables, functions, members);
-    let found = tables_text::read_tables(text, sorts, fields, variables, functions, members);
     shows::reading(
         found,
         text,
-        sorts,
-        fields,
-        variables,
-        functions,
-        members,
+        &sorts[zero..a],
+        &fields[zero..b],
+        &variables[zero..c],
+        &functions[zero..d],
+        &members[zero..e],
         line,
     );
-}
-
-fn mark_all(
-    sorts: &mut [u64],
-    fields: &mut [u64],
-    variables: &mut [u64],
-    functions: &mut [u64],
-    members: &mut [u64],
-) {
-    mark(sorts);
-    mark(fields);
-    mark(variables);
-    mark(functions);
-    mark(members);
-}
-
-fn mark(buffer: &mut [u64]) {
-    let mut at = 0;
-    while at < buffer.len() {
-        buffer[at] = shows::MARK;
-        at += 1;
-    }
 }
 
 // The words of the five tables, and the bytes that names and texts stand in.
-fn words(
-    case: &[u8],
-    text: &mut [u8],
-    sorts: &mut [u64],
-    fields: &mut [u64],
-    variables: &mut [u64],
-    functions: &mut [u64],
-    members: &mut [u64],
-    line: &mut [u8],
-) {
+fn words(case: &[u8], line: &mut [u8]) {
+    let mut sorts = rooms::row_words();
+    let mut fields = rooms::field_words();
+    let mut variables = rooms::row_words();
+    let mut functions = rooms::row_words();
+    let mut members = rooms::row_words();
+    let mut text = rooms::text_bytes();
     let zero = 0;
-    let a = fields::put_words(case, zero, sorts);
-    let second = fields::after(case, zero);
-    let b = fields::put_words(case, second, fields);
-    let third = fields::after(case, second);
-    more_words(
-        &case[third..],
-        text,
+    let second = replay::next_field(case, zero);
+    let third = replay::next_field(case, second);
+    let fourth = replay::next_field(case, third);
+    let fifth = replay::next_field(case, fourth);
+    let a = fields::put_words(case, zero, &mut sorts);
+    let b = fields::put_words(case, second, &mut fields);
+    let c = fields::put_words(case, third, &mut variables);
+    let d = fields::put_words(case, fourth, &mut functions);
+    let e = fields::put_words(case, fifth, &mut members);
+    let count = fields::put_bytes(case, replay::next_field(case, fifth), &mut text);
+    let answer = tables::check_tables(
         &sorts[zero..a],
         &fields[zero..b],
-        variables,
-        functions,
-        members,
-        line,
-    );
-}
-
-fn more_words(
-    case: &[u8],
-    text: &mut [u8],
-    sorts: &[u64],
-    fields: &[u64],
-    variables: &mut [u64],
-    functions: &mut [u64],
-    members: &mut [u64],
-    line: &mut [u8],
-) {
-    let zero = 0;
-    let c = fields::put_words(case, zero, variables);
-    let second = fields::after(case, zero);
-    let d = fields::put_words(case, second, functions);
-    let third = fields::after(case, second);
-    last_words(
-        &case[third..],
-        text,
-        sorts,
-        fields,
         &variables[zero..c],
         &functions[zero..d],
-        members,
-        line,
-    );
-}
-
-fn last_words(
-    case: &[u8],
-    text: &mut [u8],
-    sorts: &[u64],
-    fields: &[u64],
-    variables: &[u64],
-    functions: &[u64],
-    members: &mut [u64],
-    line: &mut [u8],
-) {
-    let zero = 0;
-    let e = fields::put_words(case, zero, members);
-    let count = fields::put_bytes(case, fields::after(case, zero), text);
-    let answer = tables::check_tables(
-        sorts,
-        fields,
-        variables,
-        functions,
         &members[zero..e],
         &text[zero..count],
     );
@@ -305,84 +123,43 @@ fn last_words(
 }
 
 // What is looked for, and the tables' text.
-fn search(
-    case: &[u8],
-    text: &mut [u8],
-    sorts: &mut [u64],
-    fields: &mut [u64],
-    variables: &mut [u64],
-    functions: &mut [u64],
-    members: &mut [u64],
-    line: &mut [u8],
-) {
+fn search(case: &[u8], line: &mut [u8]) {
+    let mut text = rooms::text_bytes();
     let zero = 0;
-    let second = fields::after(case, zero);
-    let count = fields::put_bytes(case, fields::after(case, second), text);
-    search_in(
-        case,
-        &text[zero..count],
-        sorts,
-        fields,
-        variables,
-        functions,
-        members,
-        line,
+    let second = replay::next_field(case, zero);
+    let count = fields::put_bytes(case, replay::next_field(case, second), &mut text);
+    search_in(case, &text[zero..count], line);
+}
+
+fn search_in(case: &[u8], text: &[u8], line: &mut [u8]) {
+    let mut sorts = rooms::row_words();
+    let mut fields = rooms::field_words();
+    let mut variables = rooms::row_words();
+    let mut functions = rooms::row_words();
+    let mut members = rooms::row_words();
+    let read = tables_text::read_tables(
+        text,
+        &mut sorts,
+        &mut fields,
+        &mut variables,
+        &mut functions,
+        &mut members,
     );
-}
-
-fn search_in(
-    case: &[u8],
-    text: &[u8],
-    sorts: &mut [u64],
-    fields: &mut [u64],
-    variables: &mut [u64],
-    functions: &mut [u64],
-    members: &mut [u64],
-    line: &mut [u8],
-) {
-    let read = tables_text::read_tables(text, sorts, fields, variables, functions, members);
-    match read {
-        TablesRead::Read {
-            sorts: a,
-            fields: _,
-            variables: c,
-            functions: d,
-            members: e,
-        } => show_found(
-            case,
-            text,
-            sorts,
-            a,
-            variables,
-            c,
-            functions,
-            d,
-            members,
-            e,
-            line,
-        ),
-        TablesRead::Refused(_) => shows::row(Found::NoRow, line),
-    }
-}
-
-fn show_found(
-    case: &[u8],
-    text: &[u8],
-    sorts: &[u64],
-    a: usize,
-    variables: &[u64],
-    c: usize,
-    functions: &[u64],
-    d: usize,
-    members: &[u64],
-    e: usize,
-    line: &mut [u8],
-) {
+    let TablesRead::Read {
+        sorts: a,
+        fields: _,
+        variables: c,
+        functions: d,
+        members: e,
+    } = read
+    else {
+        return shows::row(Found::NoRow, line);
+    };
     let zero = 0;
-    let i = fields::least(a as u64, sorts.len());
-    let k = fields::least(c as u64, variables.len());
-    let m = fields::least(d as u64, functions.len());
-    let n = fields::least(e as u64, members.len());
+    let i = fields::least(a as u64, rooms::ROWS);
+    let k = fields::least(c as u64, rooms::ROWS);
+    let m = fields::least(d as u64, rooms::ROWS);
+    let n = fields::least(e as u64, rooms::ROWS);
     let found = find(
         case,
         text,

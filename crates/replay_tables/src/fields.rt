@@ -4,26 +4,6 @@ use words::Radix;
 ghost use Prim.Native.Nat.{_≤_};
 ghost use lib.ListN.{length};
 
-// Where the field after the one at a place begins, or the case's end.
-pub fn after(case: &[u8], start: usize) -> usize
-    ensures { λ r. ⌜ r ≤ length (now (case .entry)) ⌝ }
-{
-    let end = replay::field_end(case, start, b' ');
-    if case.len() <= end {
-        return case.len();
-    }
-    end + 1
-}
-
-// The number that a field stands for; a field that is none counts as 0.
-pub fn number(field: &[u8]) -> u64 {
-    let found = words::parse(field, Radix::Hexadecimal);
-    let Parsed::Number(pair) = found else {
-        return 0;
-    };
-    pair.low
-}
-
 // So much as is asked for, as far as there is so much.
 pub fn least(asked: u64, most: usize) -> usize
     ensures { λ r. ⌜ r ≤ most ⌝ }
@@ -103,7 +83,7 @@ fn put_part(field: &[u8], out: &mut [u8], start: usize) -> usize
         return from;
     }
     let next = star + 1;
-    let end = start + least(number(&field[next..]), out.len() - start);
+    let end = start + least(replay::number(&field[next..]).low, out.len() - start);
     repeat(out, start, from, end);
     end
 }

@@ -1,6 +1,7 @@
 // An answer, as a line on standard output; it is gathered in a lent buffer and written when that is nearly full.
 use crate::fields::least;
-use libc::STDOUT_FILENO;
+use crate::rooms::MARK;
+use crate::rooms::Words;
 use refusals::Refusal;
 use tables::Checked;
 use tables::Found;
@@ -10,37 +11,8 @@ ghost use Prim.Native.Nat.{_≤_};
 ghost use lib.ListN.{length};
 ghost use Rattle.replay.specs.Places.{Onward};
 
-// What stands in each lent word before a call.
-pub const MARK: u64 = 0xEEEEEEEEEEEEEEEE;
-
 // Enough for a word, what parts it from the one before, and the name of what follows the last one.
 const SPARE: usize = 64;
-
-fn flush(line: &[u8], end: usize)
-    requires { ⌜ end ≤ length (now line) ⌝ }
-{
-    let zero = 0;
-    io::write_all(STDOUT_FILENO, &line[zero..end]);
-}
-
-fn finish(line: &mut [u8], end: usize)
-    requires { ⌜ end ≤ length (now line) ⌝ }
-{
-    let to = replay::put(b"\n", line, end);
-    flush(line, to);
-}
-
-// Where the next word may begin: at the front again, once there might be no room for it behind the others.
-fn room(line: &[u8], end: usize) -> usize
-    requires { ⌜ end ≤ length (now line) ⌝ }
-    ensures { λ r. ⌜ r ≤ length (now (line .entry)) ⌝ }
-{
-    if SPARE <= line.len() - end {
-        return end;
-    }
-    flush(line, end);
-    0
-}
 
 // A word in as few digits as it takes.
 fn put_digits(word: u64, line: &mut [u8], start: usize) -> usize
@@ -71,7 +43,7 @@ fn put_words(words: &[u64], row: &[u8], line: &mut [u8], start: usize) -> usize
     let mut end = start;
     let mut at = 0;
     while at < words.len() {
-        let free = room(line, end);
+        let free = replay::room(line, end, SPARE);
         let parted = put_parting(at, row, line, free);
         end = put_digits(words[at], line, parted);
         at += 1;
@@ -79,13 +51,38 @@ fn put_words(words: &[u64], row: &[u8], line: &mut [u8], start: usize) -> usize
     end
 }
 
-// So many words under a name.
-fn write_words(name: &[u8], words: &[u64], count: usize, row: &[u8], line: &mut [u8]) {
+fn is_marked(words: &[u64], from: usize) -> bool {
+    let mut at = from;
+    while at < words.len() {
+        if words[at] != MARK {
+            return false;
+        }
+        at += 1;
+    }
+    true
+}
+
+// So many words under a name; answers whether those behind them are as they were.
+fn table(name: &[u8], words: &[u64], count: usize, row: &[u8], line: &mut [u8]) -> bool {
     let zero = 0;
     let most = least(count as u64, words.len());
     let named = replay::put(name, line, 0);
     let end = put_words(&words[zero..most], row, line, named);
-    flush(line, end);
+    replay::flush(line, end);
+    is_marked(words, most)
+}
+
+fn all(a: bool, b: bool, c: bool, d: bool, e: bool) -> bool {
+    if a {
+        if b {
+            if c {
+                if d {
+                    return e;
+                }
+            }
+        }
+    }
+    false
 }
 
 // The tables' words and what the check says of them, or the refusal; and whether any other lent word was changed.
@@ -106,247 +103,100 @@ pub fn reading(
             variables: c,
             functions: d,
             members: e,
-        } => tables(
-            text,
-            sorts,
-            a,
-            fields,
-            b,
-            variables,
-            c,
-            functions,
-            d,
-            members,
-            e,
-            line,
-        ),
-        TablesRead::Refused(why) => refusal(
-            why,
-            sorts,
-            fields,
-            variables,
-            functions,
-            members,
-            line,
-        ),
+        } => {
+            let one = table(b"sorts=", sorts, a, b";", line);
+            let two = table(b" fields=", fields, b, b",", line);
+            let three = table(b" variables=", variables, c, b";", line);
+            let four = table(b" functions=", functions, d, b";", line);
+            let five = table(b" members=", members, e, b";", line);
+            let counts = Words {
+                sorts: a,
+                fields: b,
+                variables: c,
+                functions: d,
+                members: e,
+            };
+            let judged = judge(text, sorts, fields, variables, functions, members, counts);
+            let parted = replay::put(b" ", line, 0);
+            let end = put_checked(judged, line, parted);
+            close(all(one, two, three, four, five), line, end);
+        }
+        TablesRead::Refused(why) => {
+            let end = put_refusal(why, line);
+            let same = all(
+                is_marked(sorts, 0),
+                is_marked(fields, 0),
+                is_marked(variables, 0),
+                is_marked(functions, 0),
+                is_marked(members, 0),
+            );
+            close(same, line, end);
+        }
     }
 }
 
-fn tables(
+fn judge(
     text: &[u8],
     sorts: &[u64],
-    a: usize,
-    fields: &[u64],
-    b: usize,
-    variables: &[u64],
-    c: usize,
-    functions: &[u64],
-    d: usize,
-    members: &[u64],
-    e: usize,
-    line: &mut [u8],
-) {
-    write_tables(
-        sorts,
-        a,
-        fields,
-        b,
-        variables,
-        c,
-        functions,
-        d,
-        members,
-        e,
-        line,
-    );
-    let end = put_judged(
-        text,
-        sorts,
-        a,
-        fields,
-        b,
-        variables,
-        c,
-        functions,
-        d,
-        members,
-        e,
-        line,
-    );
-    let same = are_marked(sorts, a, fields, b, variables, c, functions, d, members, e);
-    close(same, line, end);
-}
-
-fn write_tables(
-    sorts: &[u64],
-    a: usize,
-    fields: &[u64],
-    b: usize,
-    variables: &[u64],
-    c: usize,
-    functions: &[u64],
-    d: usize,
-    members: &[u64],
-    e: usize,
-    line: &mut [u8],
-) {
-    write_words(b"sorts=", sorts, a, b";", line);
-    write_words(b" fields=", fields, b, b",", line);
-    write_rest(variables, c, functions, d, members, e, line);
-}
-
-fn write_rest(
-    variables: &[u64],
-    c: usize,
-    functions: &[u64],
-    d: usize,
-    members: &[u64],
-    e: usize,
-    line: &mut [u8],
-) {
-    write_words(b" variables=", variables, c, b";", line);
-    write_words(b" functions=", functions, d, b";", line);
-    write_words(b" members=", members, e, b";", line);
-}
-
-fn refusal(
-    why: Refusal,
-    sorts: &[u64],
     fields: &[u64],
     variables: &[u64],
     functions: &[u64],
     members: &[u64],
-    line: &mut [u8],
-) {
-    let end = put_refusal(why, line);
-    let same = are_marked(sorts, 0, fields, 0, variables, 0, functions, 0, members, 0);
-    close(same, line, end);
-}
-
-fn put_judged(
-    text: &[u8],
-    sorts: &[u64],
-    a: usize,
-    fields: &[u64],
-    b: usize,
-    variables: &[u64],
-    c: usize,
-    functions: &[u64],
-    d: usize,
-    members: &[u64],
-    e: usize,
-    line: &mut [u8],
-) -> usize
-    ensures { λ r. ⌜ r ≤ length (now (line .entry)) ⌝ }
-{
+    counts: Words,
+) -> Checked {
     let zero = 0;
-    let i = least(a as u64, sorts.len());
-    let j = least(b as u64, fields.len());
-    let k = least(c as u64, variables.len());
-    let m = least(d as u64, functions.len());
-    let n = least(e as u64, members.len());
-    let answer = tables::check_tables(
+    let i = least(counts.sorts as u64, sorts.len());
+    let j = least(counts.fields as u64, fields.len());
+    let k = least(counts.variables as u64, variables.len());
+    let m = least(counts.functions as u64, functions.len());
+    let n = least(counts.members as u64, members.len());
+    tables::check_tables(
         &sorts[zero..i],
         &fields[zero..j],
         &variables[zero..k],
         &functions[zero..m],
         &members[zero..n],
         text,
-    );
-    let parted = replay::put(b" ", line, 0);
-    put_checked(answer, line, parted)
+    )
 }
 
-fn put_checked(answer: Checked, line: &mut [u8], start: usize) -> usize
-    requires { ⌜ start ≤ length (now line) ⌝ }
-    ensures { λ r. ⌜ r ≤ length (now (line .entry)) ⌝ }
-{
+fn put_checked(answer: Checked, line: &mut [u8], start: usize) -> usize {
     match answer {
         Checked::Passed => replay::put(b"passed", line, start),
-        Checked::Refused(why) => {
-            let named = replay::put(b"refused=", line, start);
-            replay::put_number(why.number(), line, named)
-        }
+        Checked::Refused(why) => replay::put_refusal(why, line, start),
     }
 }
 
 // The detail is a need, and none is 0.
-fn put_refusal(why: Refusal, line: &mut [u8]) -> usize
-    ensures { λ r. ⌜ r ≤ length (now (line .entry)) ⌝ }
-{
-    let named = replay::put(b"refused=", line, 0);
-    let end = replay::put_number(why.number(), line, named);
+fn put_refusal(why: Refusal, line: &mut [u8]) -> usize {
     if why.detail() == 0 {
-        return end;
+        return replay::put_refusal(why, line, 0);
     }
-    let next = replay::put(b" detail=", line, end);
-    replay::put_number(why.detail() as u64, line, next)
+    replay::put_detailed(why, line, 0)
 }
 
-fn is_marked(words: &[u64], from: usize) -> bool {
-    let mut at = from;
-    while at < words.len() {
-        if words[at] != MARK {
-            return false;
-        }
-        at += 1;
-    }
-    true
-}
-
-// All words behind the tables.
-fn are_marked(
-    sorts: &[u64],
-    a: usize,
-    fields: &[u64],
-    b: usize,
-    variables: &[u64],
-    c: usize,
-    functions: &[u64],
-    d: usize,
-    members: &[u64],
-    e: usize,
-) -> bool {
-    if !is_marked(sorts, a) {
-        return false;
-    }
-    if !is_marked(fields, b) {
-        return false;
-    }
-    if !is_marked(variables, c) {
-        return false;
-    }
-    if !is_marked(functions, d) {
-        return false;
-    }
-    is_marked(members, e)
-}
-
-fn close(same: bool, line: &mut [u8], end: usize)
-    requires { ⌜ end ≤ length (now line) ⌝ }
-{
+fn close(same: bool, line: &mut [u8], end: usize) {
     if same {
-        return finish(line, end);
+        return replay::finish(line, end);
     }
     let to = replay::put(b" changed", line, end);
-    finish(line, to);
+    replay::finish(line, to);
 }
 
 pub fn check(answer: Checked, line: &mut [u8]) {
     let end = put_checked(answer, line, 0);
-    finish(line, end);
+    replay::finish(line, end);
 }
 
 pub fn row(found: Found, line: &mut [u8]) {
     match found {
         Found::Row(at) => {
-            let named = replay::put(b"row=", line, 0);
-            let end = replay::put_number(at as u64, line, named);
-            finish(line, end);
+            let end = replay::put_named(b"row=", at, line, 0);
+            replay::finish(line, end);
         }
         Found::NoRow => {
             let end = replay::put(b"none", line, 0);
-            finish(line, end);
+            replay::finish(line, end);
         }
     }
 }

@@ -23,7 +23,7 @@ use Rattle.tables_text.proofs.Back.{read-back}
 use Rattle.model.specs.Model.{readModel}
 use Rattle.listing.specs.Lists as listing
 use Rattle.reply.specs.Reply.{Rooms, Walks, unread, walked, Replies, too-long, bad-table, spelled, programRooms}
-use Rattle.reply.specs.Printed.{shown, Prints}
+use Rattle.reply.specs.Printed.{Shown, shown, Shows, Prints}
 
 -- a text spells one thing
 one-spelled : (s : List ℕ) (t u : Tables) → Spells s t → Spells s u → t ≡ u
@@ -65,7 +65,10 @@ module _ (tables reply : List ℕ) (rooms : Rooms) (entry : List ℕ) where
       let k = one-walk T rooms reply entry p (subst (λ (v : Tables). Walks v rooms reply entry s e) (one-spelled tables U T u t) q) in
       (k .0, one-result i j, k .1)
 
--- the same of what is printed
+-- the same of a refusal's lines, and of what is printed
+pub one-shown : {what : Shown} {r s : ℕ} {d e : List ℕ} → Shows what r d → Shows what s e → (r ≡ s) × (d ≡ e)
+one-shown p q = (one-result (p .counts) (q .counts), one-result (p .holds) (q .holds))
+
 pub one-print : (tables reply entry : List ℕ) {r s : ℕ} {d e : List ℕ} → Prints tables reply entry r d → Prints tables reply entry s e → (r ≡ s) × (d ≡ e)
 one-print tables reply entry {r} {s} {d} {e} p q =
     let k = one-reply tables reply programRooms entry (p .lists .replies) (q .lists .replies) in

@@ -1,3 +1,4 @@
 pub mod Reply
 pub mod Read
 pub mod Printed
+pub mod Examples

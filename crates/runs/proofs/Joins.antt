@@ -11,7 +11,7 @@ use Rattle.lent.specs.Put.{Puts}
 use Rattle.lent.proofs.Pieces.{piece-front}
 use Rattle.order.specs.Order.{before}
 use Rattle.order.specs.Merge.{inserts}
-use Rattle.order.specs.Every.{Every, finished, also, Ascends}
+use Rattle.order.specs.Every.{Every, none, also, Ascends}
 use Rattle.order.proofs.Befores.{never, before-transitive, before-total}
 use Rattle.order.proofs.Everies.{every-map, every-append, every-left, every-right, every-head, ascends-head, ascends-across}
 use Rattle.order.proofs.Arranges.{first-before}
@@ -160,7 +160,7 @@ module _ (last : Bool) (s : List ℕ) (k p : ℕ) (nonzero : k ≡ 0 → ⊥) (l
         (λ u f. every-map (λ z. before (key (m .x)) (key z) ≡ true) (λ z. before (key u) (key z) ≡ true)
         (λ z w. before-transitive (key u) (key (m .x)) (key z) (every-head (λ z. before (key u) (key z) ≡ true) (m .x) [] f) w) (m .y ∷ m .bs) under-x) (m .us)
         (ascends-across key (m .us) (m .x ∷ []) (m .rise-us)))
-        (also under-x finished) in
+        (also under-x none) in
         front-all s whole
         (m .parts ∙ sym (run-append (m .us ++ (m .x ∷ [])) (m .y ∷ m .bs))
         ∙ ap run (sym (inserts-below key last (m .us ++ (m .x ∷ [])) (m .y ∷ m .bs) (m .rise-us) under)) ∙ m .makes);
@@ -194,7 +194,7 @@ module _ (last : Bool) (s : List ℕ) (k p : ℕ) (nonzero : k ≡ 0 → ⊥) (l
           ∙ ap run (sym (meet-earlier key last (m .us) (m .bs) (m .x) (m .y) (m .rise-us) (m .rise-bs) same l)) ∙ m .makes in
           subst (λ (z : List ℕ). Front exit r z) w (d .earlier l)
 
-  -- a run of one record that is not the least has nonzero before it
+  -- a run of one record that is not the least has some before it
   pub merged-never : (v : Bool) (h q : ℕ) (exit : List ℕ) (r : ℕ) → r ≤ length s → v ≡ before (keyAt s k) (keyAt s p) → v ≡ true → Halved s k h → Lower s h k q → h + (q - k) ≡ 0 → Merged last k s exit r
   merged-never v h q exit r fit e g a w z = record {
     within = fit;

@@ -10,3 +10,4 @@ pub mod Knits
 pub mod Joins
 pub mod Splits
 pub mod Orders
+pub mod One

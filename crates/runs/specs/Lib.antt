@@ -5,3 +5,4 @@ pub mod Merge
 pub mod Pair
 pub mod Index
 pub mod Arrange
+pub mod Examples

@@ -35,10 +35,7 @@ pub fn symbol_at(nodes: &[u64], at: usize) -> Word
             high: _,
         } => Word::NoSymbol,
         Node::Numeral { low: _, high: _ } => Word::NoSymbol,
-        Node::String {
-            size: _,
-            offset: _,
-        } => Word::NoSymbol,
+        Node::String { size: _, offset: _ } => Word::NoSymbol,
         Node::Symbol { size, offset } => Word::Symbol { size, offset },
         Node::App {
             children: _,
@@ -59,14 +56,8 @@ pub fn numeral_at(nodes: &[u64], at: usize) -> Index
             high: _,
         } => Index::NoNumeral,
         Node::Numeral { low, high } => Index::Numeral { low, high },
-        Node::String {
-            size: _,
-            offset: _,
-        } => Index::NoNumeral,
-        Node::Symbol {
-            size: _,
-            offset: _,
-        } => Index::NoNumeral,
+        Node::String { size: _, offset: _ } => Index::NoNumeral,
+        Node::Symbol { size: _, offset: _ } => Index::NoNumeral,
         Node::App {
             children: _,
             end: _,
@@ -94,14 +85,8 @@ pub fn wide_at(nodes: &[u64], at: usize) -> Wide
             Wide::NotWide
         }
         Node::Numeral { low: _, high: _ } => Wide::NotWide,
-        Node::String {
-            size: _,
-            offset: _,
-        } => Wide::NotWide,
-        Node::Symbol {
-            size: _,
-            offset: _,
-        } => Wide::NotWide,
+        Node::String { size: _, offset: _ } => Wide::NotWide,
+        Node::Symbol { size: _, offset: _ } => Wide::NotWide,
         Node::App {
             children: _,
             end: _,
@@ -121,14 +106,8 @@ pub fn list_at(nodes: &[u64], at: usize) -> Parts
             high: _,
         } => Parts::NoList,
         Node::Numeral { low: _, high: _ } => Parts::NoList,
-        Node::String {
-            size: _,
-            offset: _,
-        } => Parts::NoList,
-        Node::Symbol {
-            size: _,
-            offset: _,
-        } => Parts::NoList,
+        Node::String { size: _, offset: _ } => Parts::NoList,
+        Node::Symbol { size: _, offset: _ } => Parts::NoList,
         Node::App { children, end: _ } => Parts::Children(children),
         Node::NoNode => Parts::NoList,
     }

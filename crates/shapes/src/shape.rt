@@ -306,10 +306,7 @@ fn by_head(nodes: &[u64], text: &[u8], at: usize, count: u64) -> Found
             high: _,
         } => Found::Other,
         Node::Numeral { low: _, high: _ } => Found::Other,
-        Node::String {
-            size: _,
-            offset: _,
-        } => Found::Other,
+        Node::String { size: _, offset: _ } => Found::Other,
         Node::Symbol { size, offset } => applied(nodes, text, offset, size, at + 1, count),
         Node::App { children, end } => headed(nodes, text, at + 1, children, end as usize, count),
         Node::NoNode => Found::Other,

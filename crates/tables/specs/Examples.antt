@@ -1,8 +1,9 @@
 -- Document 01, "Sorts and literals" and "The listing": tables and names beside the rules.
 use mathlib.Core.Path.{_≡_, refl}
 use mathlib.Core.Bool.{true, false}
-use mathlib.Core.List.{[], _∷_, _++_, map}
+use mathlib.Core.List.{List, [], _∷_, _++_, map}
 use mathlib.Core.Option.{none, some}
+use Prim.Native.Nat.{ℕ}
 use Rattle.ground.specs.Bytes.{bytes}
 use Rattle.ground.specs.Lists.{any, all, distinct, find, at, tabulate}
 use Rattle.utf8.specs.Octets.{octets, utf8}
@@ -10,7 +11,7 @@ use Rattle.lexicon.specs.Class.{classOf}
 use Rattle.lexicon.specs.Span.{inSymbol}
 use Rattle.lexicon.specs.Symbol.{oneSymbol}
 use Rattle.arena.specs.Text.{sameText}
-use Rattle.tables.specs.Sort.{bool, string, bitVec, optionOf, setOf, entityOf, recordOf}
+use Rattle.tables.specs.Sort.{bool, string, bitVec, optionOf, setOf, entityOf, recordOf, Tables}
 use Rattle.tables.specs.Layout.{Lent, tablesOf, formed}
 use Rattle.tables.specs.Kept.{keptWords, kept}
 use Rattle.tables.specs.Rules.{nameRight, ownName, sortsRight, sameSort, lawful}
@@ -55,6 +56,20 @@ apart : map (distinct sameSort)
     ≡ true ∷ false ∷ true ∷ true ∷ false ∷ []
 unfolding distinct any sameText
 apart = refl
+
+-- two variables of these names, which may be a function's too
+abbrev two : List ℕ → List ℕ → Tables
+two first second =
+    record {
+      sorts = bool ∷ [];
+      variables = record { name = first; sort = 0 } ∷ record { name = second; sort = 0 } ∷ [];
+      functions = record { name = first; argument = 0; result = 0 } ∷ [];
+      members = [];
+    }
+
+repeated : lawful (two (bytes "x") (bytes "y")) ∷ lawful (two (bytes "x") (bytes "x")) ∷ [] ≡ true ∷ false ∷ []
+unfolding lawful all distinct any at sortsRight sameText oneSymbol inSymbol classOf utf8 octets
+repeated = refl
 
 -- bool, bitvec 8, option 1, entity E, record R 0 3; x of sort 2; f from 1 to 0; m of entity 3
 unfoldable sample : Lent

@@ -13,3 +13,4 @@ pub mod Back
 pub mod Meanings
 pub mod Readings
 pub mod Checked
+pub mod Ends

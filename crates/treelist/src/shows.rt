@@ -26,14 +26,7 @@ pub fn refusal(why: Refusal, line: &mut [u8]) {
 }
 
 // The needs, the nodes and the text of a tree that was read.
-pub fn tree(
-    count: usize,
-    size: usize,
-    depth: usize,
-    nodes: &[u64],
-    text: &[u8],
-    line: &mut [u8],
-) {
+pub fn tree(count: usize, size: usize, depth: usize, nodes: &[u64], text: &[u8], line: &mut [u8]) {
     if nodes.len() / STRIDE < count {
         return;
     }

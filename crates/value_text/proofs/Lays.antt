@@ -162,3 +162,8 @@ one-wrote {need} {bytes} {entry} {d} {e} {r} {s} p q = (
   one-result (ap (λ (k : ℕ). take k d) (p .long) ∙ p .front) (ap (λ (k : ℕ). take k e) (q .long) ∙ q .front),
   one-result (p .beyond) (q .beyond),
 )
+
+-- the same at a place: the answer, the bytes up to it, and those past the room of the text as it was written
+pub one-laid : {written bytes entry d e : List ℕ} {at m n : ℕ} → Laid written bytes entry d at m → Laid written bytes entry e at n →
+    (m ≡ n) × (take m d ≡ take n e) × (drop (at + length written) d ≡ drop (at + length written) e)
+one-laid p q = (one-result (p .after) (q .after), one-result (p .front) (q .front), one-result (p .beyond) (q .beyond))

@@ -123,10 +123,7 @@ pub fn write_named(nodes: &[u64], text: &[u8], row: usize, at: usize, out: &mut 
             let end = range.end;
             write_entity(row, &text[start..end], out)
         }
-        Node::Symbol {
-            size: _,
-            offset: _,
-        } => 0,
+        Node::Symbol { size: _, offset: _ } => 0,
         Node::App {
             children: _,
             end: _,
