@@ -7,10 +7,10 @@ use Rattle.literals.proofs.answer.value_of.Lts as lts
 use Rattle.sorts.proofs.row_of.Reads as row-of-reads
 
 returns : tie.Need-returns
-returns c = let a = c .before .before .before .before .before .args in value-row (a .sorts .now) (a .wanted) (a .need) (a .«is_set») (c .before .before .before .row-of .result) (c .before .before .before .row-of .ensures) _ (c .before .sorted .given .1)
+returns c = let a = c .before .before .before .before .before .args in value-row (a .sorts .now) (a .wanted) (a .need) (a .is-set) (c .before .before .before .row-of .result) (c .before .before .before .row-of .ensures) _ (c .before .sorted .given .1)
 
 returns-2 : tie.Need-returns-2
-returns-2 c = let a = c .before .before .before .before .before .args in value-refused (a .sorts .now) (a .wanted) (a .need) (a .«is_set») (c .before .before .before .row-of .result) (c .before .before .before .row-of .ensures) _ (c .before .sorted2 .given .1)
+returns-2 c = let a = c .before .before .before .before .before .args in value-refused (a .sorts .now) (a .wanted) (a .need) (a .is-set) (c .before .before .before .row-of .result) (c .before .before .before .row-of .ensures) _ (c .before .sorted2 .given .1)
 
 pub value-of-spec : {M : Type 1} → statement M
 value-of-spec =

@@ -8,7 +8,7 @@ use Rattle.replay_tables.proofs.shows.put_words.Reads as reads
 use Rattle.replay_tables.proofs.shows.put_words.Lts as lts
 use Rattle.replay_tables.proofs.shows.put_digits.Reads as put-digits-reads
 use Rattle.replay_tables.proofs.shows.put_parting.Reads as put-parting-reads
-use Rattle.replay_tables.proofs.shows.room.Reads as room-reads
+use Rattle.replay.proofs.room.Reads as room-reads
 
 abbrev Inv-loop : tie.InvT-loop
 Inv-loop words row line₀ start end₀ at₀ line end at = (end ≤ length line₀) × (length line ≡ length line₀) × (at ≤ length words)
