@@ -70,7 +70,7 @@ module _ (t : Tree) (N T S : List ℕ) (room : Room t N T S) where
   fine-next (going st) c (token opens) h a u l m r =
       record { fine = subst (λ (x : Scan). FineOpen (x .nodes) (x .depth) N S) (sym h) (fine-open t N T S room st u); depth = m .depth; nodes = m .nodes }
   fine-next (going st) c (token closes) h a u l m r =
-      record { fine = subst (λ (x : Scan). FineClose (x .nodes) (x .depth) N S) (sym h) (fine-close t N T S room st a u l); depth = m .depth; nodes = m .nodes }
+      record { fine = subst (λ (x : Scan). FineClose (x .depth) N S) (sym h) (fine-close t N T S room st a u l); depth = m .depth; nodes = m .nodes }
   fine-next (going st) c (token (atom b)) h a u l m r =
       record {
         node = record {

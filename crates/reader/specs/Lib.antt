@@ -3,3 +3,4 @@ pub mod Read
 pub mod Write
 pub mod Judge
 pub mod Samples
+pub mod Rooms
