@@ -4,4 +4,3 @@ pub mod Arena
 pub mod Node
 pub mod Text
 pub mod Stands
-pub mod Samples

@@ -5,6 +5,7 @@ pub mod Rust
 pub mod Frames
 pub mod Upto
 pub mod Laid
+pub mod Ends
 pub mod Agree
 pub mod Next
 pub mod One

@@ -18,6 +18,7 @@ use Rattle.brackets.proofs.Leaves.{nodes-leaf, text-leaf, words-leaf, l
 use Rattle.brackets.proofs.Snoc.{nodesOf-snoc, texts-snoc}
 use Rattle.brackets.proofs.Frames.{laidN, laidT, laidW, laidS, measure}
 use Rattle.brackets.proofs.Laid.{more, shut, counted, top, bump-laid, len-stack}
+use Rattle.brackets.proofs.Ends.{end-uncounted}
 use Rattle.brackets.proofs.Upto.{Upto, Below, upto-add, len-text, len-snoc, deep}
 
 abbrev pub Laid : Walk → List ℕ → List ℕ → List ℕ → Type 0
@@ -107,7 +108,7 @@ module _ (t : Tree) (N T S : List ℕ) (room : Room t N T S) where
   pub fine-open : (st : List Trees) → Upto (onward st opens) t → FineOpen (laidN st) (length st) N S
   fine-open st u = record { node = omega (arith, u .nodes); deep = omega (arith, u .depth) }
 
-  pub fine-close : (st : List Trees) → Below st t → Upto (onward st closes) t → Laid (going st) N T S → FineClose (laidN st) (length st) N S
+  pub fine-close : (st : List Trees) → Below st t → Upto (onward st closes) t → Laid (going st) N T S → FineClose (length st) N S
   fine-close [] a u l = absurd u
   fine-close (ks ∷ st) a u l =
       let d = deep (ks ∷ st) in
@@ -115,9 +116,9 @@ module _ (t : Tree) (N T S : List ℕ) (room : Room t N T S) where
         some = omega arith;
         deep = omega arith;
         node = rw (top ks st S (l .2)) (omega arith);
-        counts = subst (λ (k : ℕ). Counts k (shutN (laidN (ks ∷ st)) (suc (length st)) N S) S) (sym (less-one (length st)))
-            (counted-laid st (app ks) _ S (laidN (ks ∷ st)) (shut-laid ks st N S (l .0) (l .2)) refl
-            (rw length-set (omega arith)) (rw length-set (room .small)) (popped ks st S (l .2)) (omega arith));
+        counts = subst (λ (k : ℕ). Counts k N S) (sym (less-one (length st)))
+            (end-uncounted (length st) (innermost (suc (length st)) S) (laidN (ks ∷ st)) N S (counted-laid st (app ks) _ S (laidN (ks ∷ st)) (shut-laid ks st N S (l .0) (l .2)) refl
+            (rw length-set (omega arith)) (rw length-set (room .small)) (popped ks st S (l .2)) (omega arith)));
       }
 
   pub fine-leaf : (st : List Trees) (b : Atom) → Below st t → Upto (onward st (atom b)) t → Laid (going st) N T S → FineLeaf (laidN st) (length st) (atomWords b (length (laidT st))) N S

@@ -67,11 +67,11 @@ pub record Opened (n d : ℕ) (N N′ S S′ : List ℕ) : Type 0 where
   pub nodes : N′ ≡ nodeN n (appWords 0 0) N
   pub stack : S′ ≡ set S d n
 
-pub record FineClose (n d : ℕ) (N S : List ℕ) : Type 0 where
+pub record FineClose (d : ℕ) (N S : List ℕ) : Type 0 where
   pub some : 0 < d
   pub deep : d ≤ length S
   pub node : endCell (innermost d S) < length N
-  pub counts : Counts (d - 1) (shutN n d N S) S
+  pub counts : Counts (d - 1) N S
 
 pub record FineLeaf (n d : ℕ) (ws N S : List ℕ) : Type 0 where
   pub node : n * stride + stride ≤ length N

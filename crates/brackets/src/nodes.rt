@@ -63,7 +63,7 @@ pub fn put_open(at: usize, depth: usize, nodes: &mut [u64], stack: &mut [u64])
 
 // The innermost of so many lists ends before a node.
 pub fn put_close(at: usize, depth: usize, nodes: &mut [u64], stack: &[u64])
-    requires { ⌜ FineClose at depth (now nodes) (now stack) ⌝ }
+    requires { ⌜ FineClose depth (now nodes) (now stack) ⌝ }
     ensures { λ _. ⌜ now (nodes .exit) ≡ closeN at depth (now (nodes .entry)) (now (stack .entry)) ⌝ }
 {
     let outer = depth - 1;

@@ -16,11 +16,11 @@ use Rattle.brackets.specs.Walk.{Walk, going, done, fault, walk, step, tree, fin
 use Rattle.brackets.proofs.Agree.{Agrees, agree-step}
 use Rattle.brackets.proofs.Upto.{Upto, upto}
 use Rattle.brackets.proofs.Next.{Laid, Room, fine-open, fine-close, fine-leaf, room-text, laid-on, Kept, kept-none, kept-on}
-use Rattle.tokens.specs.Past.{Past}
 use Rattle.tokens.specs.declared.lexeme.Lexeme.{Lexeme}
-use Rattle.tokens.specs.Lexeme.{lexemeAt}
+use Rattle.tokens.specs.Lexeme.{blankSpan, lexemeAt}
 use Rattle.tokens.specs.Piece.{Piece, space, token, wrong, pieceOf, Lexed, ok, bad, emit, lex}
 use Rattle.tokens.proofs.Lexes.{lex-nil, found-piece, lex-at, found-within, found-there}
+use Rattle.tokens.proofs.Pasts.{past-same}
 use Rattle.reader.specs.declared.tally.Tally.the-variants.{Scanned}
 use Rattle.reader.specs.Tally.{turned, Ample}
 use Rattle.refusals.specs.Limit.{inputLimit}
@@ -71,7 +71,7 @@ module _ (t : Tree) (N T S : List ℕ) (room : Room t N T S) where
   fine-next (going st) c (token opens) h a u l m r =
       record { fine = subst (λ (x : Scan). FineOpen (x .nodes) (x .depth) N S) (sym h) (fine-open t N T S room st u); depth = m .depth; nodes = m .nodes }
   fine-next (going st) c (token closes) h a u l m r =
-      record { fine = subst (λ (x : Scan). FineClose (x .nodes) (x .depth) N S) (sym h) (fine-close t N T S room st a u l); depth = m .depth; nodes = m .nodes }
+      record { fine = subst (λ (x : Scan). FineClose (x .depth) N S) (sym h) (fine-close t N T S room st a u l); depth = m .depth; nodes = m .nodes }
   fine-next (going st) c (token (atom b)) h a u l m r =
       record {
         node = record {
@@ -204,7 +204,7 @@ module _ (s N₀ T₀ S₀ : List ℕ) (c : Scan) (at : ℕ) (N T S : List ℕ) 
       }))))
 
 -- white space changes nothing
-pub holds-past : (s N₀ T₀ S₀ : List ℕ) (c : Scan) (at next : ℕ) (N T S : List ℕ) → Holds s N₀ T₀ S₀ c at N T S → Past s at next → Holds s N₀ T₀ S₀ c next N T S
+pub holds-past : (s N₀ T₀ S₀ : List ℕ) (c : Scan) (at next : ℕ) (N T S : List ℕ) → Holds s N₀ T₀ S₀ c at N T S → next ≡ at + blankSpan (drop at s) → Holds s N₀ T₀ S₀ c next N T S
 holds-past s N₀ T₀ S₀ c at next N T S h p = record {
   t = h .t;
   w = h .w;
@@ -212,7 +212,7 @@ holds-past s N₀ T₀ S₀ c at next N T S h p = record {
   sofar = sofar-past s at next c (h .sofar) p;
   agrees = h .agrees;
   whole = h .whole;
-  lexed = p .same ∙ h .lexed;
+  lexed = past-same s at next p ∙ h .lexed;
   rest = h .rest;
   room = h .room;
   laid = h .laid;

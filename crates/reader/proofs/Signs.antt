@@ -82,5 +82,8 @@ module _ (w n : ℕ) (nonzero : 0 < w) (within : n < 2 ^ w) where
       (λ short. by-test (negative w n) (λ t. held-filled short (extended-negative w n nonzero short t)) (λ t. held-plain h (extended-positive w n t)))
       (λ wide. held-plain h (extended-wide w n wide))
 
+  pub extended-fits : n < 2 ^ 128 → extended w n < 2 ^ 128
+  extended-fits h = held h .fits
+
   pub extended-sound : n < 2 ^ 128 → w ≤ mostWidth → BitVector w (extended w n)
   extended-sound h most = record { least = nonzero; most = most; fits = held h .fits; sign = ap (extended w) (sym (held h .lows)) }

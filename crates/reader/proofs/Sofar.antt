@@ -18,10 +18,10 @@ use Rattle.tokens.specs.declared.atom.Sized.{Sized}
 use Rattle.tokens.specs.declared.atom.Sized.the-variants as S
 use Rattle.tokens.specs.declared.atom.Sized.the-variants.{Text}
 use Rattle.tokens.specs.declared.lexeme.Lexeme.{Lexeme}
-use Rattle.tokens.specs.Lexeme.{lexemeAt}
+use Rattle.tokens.specs.Lexeme.{blankSpan, lexemeAt}
 use Rattle.tokens.specs.Piece.{Piece, space, token, wrong, pieceOf, sizedOf, Lexed, ok, bad, emit, lex}
-use Rattle.tokens.specs.Past.{Past}
 use Rattle.tokens.proofs.Lexes.{lex-nil, found-some, found-within, found-there, found-piece, lex-at, textSize, size-small, bytes-part}
+use Rattle.tokens.proofs.Pasts.{past-within, past-same}
 use Rattle.reader.specs.declared.tally.Tally.{Tally}
 use Rattle.reader.specs.declared.tally.Tally.the-variants.{Scanned, Fault}
 use Rattle.reader.specs.Tally.{turned, tallied, Ample}
@@ -95,13 +95,13 @@ pub sofar-end : (s : List ℕ) (at : ℕ) (c : Scan) → Sofar s at c → length
 sofar-end s at c h k = ap (tallied c) (sym (ap lex (drop-of-length-le s k) ∙ lex-nil)) ∙ h .rest
 
 -- white space changes nothing
-pub sofar-past : (s : List ℕ) (at next : ℕ) (c : Scan) → Sofar s at c → Past s at next → Sofar s next c
+pub sofar-past : (s : List ℕ) (at next : ℕ) (c : Scan) → Sofar s at c → next ≡ at + blankSpan (drop at s) → Sofar s next c
 sofar-past s at next c h p = record {
-  within = p .within;
-  depth = omega (arith, h .depth, p .onward);
-  nodes = omega (arith, h .nodes, p .onward);
-  text = omega (arith, h .text, p .onward);
-  rest = ap (tallied c) (p .same) ∙ h .rest;
+  within = past-within s at next p (h .within);
+  depth = omega (arith, h .depth);
+  nodes = omega (arith, h .nodes);
+  text = omega (arith, h .text);
+  rest = ap (tallied c) (past-same s at next p) ∙ h .rest;
 }
 
 -- one lexeme more, its content cut out as the code does

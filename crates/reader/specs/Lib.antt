@@ -2,5 +2,6 @@ pub mod Tally
 pub mod Read
 pub mod Write
 pub mod Judge
-pub mod Rooms
+pub mod Program
 pub mod Samples
+pub mod Rooms

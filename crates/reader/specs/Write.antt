@@ -55,7 +55,7 @@ FineNumber c (wrong why) N S = ⊥
 abbrev pub Fine : Scan → Piece → List ℕ → List ℕ → List ℕ → Type 0
 Fine c space N T S = Unit {0}
 Fine c (token opens) N T S = FineBracket c (FineOpen (c .nodes) (c .depth) N S)
-Fine c (token closes) N T S = FineBracket c (FineClose (c .nodes) (c .depth) N S)
+Fine c (token closes) N T S = FineBracket c (FineClose (c .depth) N S)
 Fine c (token (atom a)) N T S = FineAtom c (atomWords a (c .text)) (atomText a) N T S
 Fine c (wrong why) N T S = ⊥
 

@@ -121,7 +121,7 @@ fn write_open(scan: Scan, nodes: &mut [u64], stack: &mut [u64]) -> Scan
 }
 
 fn write_close(scan: Scan, nodes: &mut [u64], stack: &[u64]) -> Scan
-    requires { ⌜ FineBracket scan (FineClose (scan .nodes) (scan .depth) (now nodes) (now stack)) ⌝ }
+    requires { ⌜ FineBracket scan (FineClose (scan .depth) (now nodes) (now stack)) ⌝ }
     ensures { λ r. ⌜ ClosedBy scan (now (nodes .entry)) (now (nodes .exit)) (now (stack .entry)) r ⌝ }
 {
     brackets::put_close(scan.nodes, scan.depth, nodes, stack);

@@ -7,7 +7,7 @@ use lib.ListN.{replicate}
 use Rattle.refusals.specs.declared.Refusal.{Refusal}
 use Rattle.lent.specs.declared.Written.{Written}
 use Rattle.lent.specs.declared.Written.the-variants.{Length, Refused}
-use Rattle.reader.specs.Rooms.{programWords}
+use Rattle.reader.specs.Program.{programWords}
 use Rattle.reply.specs.Reply.{Rooms, Replies}
 use Rattle.reply.specs.Printed.{shown, Shows, Lists, Prints}
 use Rattle.reply.proofs.Trees.{rooms-equal}

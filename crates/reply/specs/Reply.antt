@@ -10,7 +10,7 @@ use Rattle.refusals.specs.declared.Refusal.{Refusal}
 use Rattle.refusals.specs.declared.Refusal.the-variants.{InputTooLong, BadTable}
 use Rattle.lent.specs.declared.Written.{Written}
 use Rattle.lent.specs.Left.{refusing, Leaves}
-use Rattle.reader.specs.Rooms.{programWords}
+use Rattle.reader.specs.Program.{programWords}
 use Rattle.arena.specs.Tree.{Tree}
 use Rattle.brackets.specs.Walk.{tree}
 use Rattle.reader.specs.declared.read.Reading.{Reading}

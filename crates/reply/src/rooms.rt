@@ -4,7 +4,7 @@ use lent::Written;
 use reader::PROGRAM_WORDS;
 ghost use mathlib.Core.Path.{_≡_};
 ghost use lib.ListN.{replicate};
-ghost use Rattle.reader.specs.Rooms.{programWords};
+ghost use Rattle.reader.specs.Program.{programWords};
 ghost use Rattle.reply.specs.Printed.{Lists};
 
 fn node_words() -> [u64; PROGRAM_WORDS]

@@ -1,14 +1,14 @@
 -- A string literal is one string: the UTF-8 of the theory's characters.
 -- Assumes nothing.
 use mathlib.Core.Path.{_≡_, refl, ap, _∙_}
-use mathlib.Core.Bool.{Bool, true, false, not, _&&_, _||_}
+use mathlib.Core.Bool.{true, false, not}
 use mathlib.Core.List.{List, [], _∷_, _++_, append-assoc}
 use Prim.Native.Nat.{ℕ, suc, _+_}
 use native.Mathlib.Omega.{arith}
-use lib.Dec.{leb, eqb, ltb}
+use lib.Dec.{eqb, ltb}
 use lib.ListN.{length, length-append}
 use lib.Seq.{take-append-seam, drop-append-add}
-use borrow.Author.Tests.{ltb-true, lt-ltb, lt-leb, not-true}
+use borrow.Author.Tests.{lt-ltb, not-true}
 use Rattle.ground.proofs.Tests.{both-left, both-right}
 use Rattle.strings.specs.Points.{points}
 use Rattle.strings.specs.Text.{encodings, anySurrogate}
@@ -22,32 +22,18 @@ use Rattle.tokens.specs.declared.lexeme.Kind.the-variants.{Quoted}
 use Rattle.tokens.specs.Lexeme.{lexeme, inside, afterQuote}
 use Rattle.tokens.specs.Piece.{Piece, token, pieceOf, more, emit, lex}
 use Rattle.ground.specs.Lists.{all}
-use Rattle.standard.specs.Bytes.{among, enders, whiteSpaces, printable}
+use Rattle.standard.specs.Bytes.{among, enders}
 use Rattle.standard.specs.Written.{Inside, empty, byte, doubled, ended}
 use Rattle.standard.specs.Limits.{noRawByte, Plain}
 use Rattle.standard.proofs.Runs.{pass}
 use Rattle.standard.proofs.Separators.{one-piece, at-class}
 
--- without bytes from 80 hex on, the standard's literals are the theory's
-same-byte : (b : ℕ) → ltb b 0x80 ≡ true → (printable b || among whiteSpaces b) ≡ true → (L.printable b || L.whiteSpace b) ≡ true
-unfolding among
-same-byte b h k =
-    let l = ltb-true b 0x80 h in
-    go (leb 0x20 b && leb b 0x7E) (eqb b 0x09) (eqb b 0x0A) (eqb b 0x0D) (eqb b 0x20) (rw (lt-leb 0x80 b l) at k)
-  where
-    go : (p t u v w : Bool) → (p || false || (t || (u || (v || (w || false))))) ≡ true → (p || (t || u || v || w)) ≡ true
-    go true t u v w q = refl
-    go false true u v w q = refl
-    go false false true v w q = refl
-    go false false false true w q = refl
-    go false false false false true q = refl
-    go false false false false false q = q
-
+-- without bytes from 80 hex on, the standard's literals are among the theory's
 literal-of : {s : List ℕ} → Inside s → noRawByte s ≡ true → Literal s
 unfolding all
 literal-of empty h = L.empty
 literal-of (byte {b} {s} p q i) h =
-    L.byte (same-byte b (both-left (ltb b 0x80) (noRawByte s) h) p) q (literal-of i (both-right (ltb b 0x80) (noRawByte s) h))
+    L.byte (both-left (ltb b 0x80) (noRawByte s) h) q (literal-of i (both-right (ltb b 0x80) (noRawByte s) h))
 literal-of (doubled i) h = L.doubled (literal-of i h)
 
 passed : (b : ℕ) (s : List ℕ) → eqb b 0x22 ≡ false → inside (b ∷ s) ≡ suc (inside s)

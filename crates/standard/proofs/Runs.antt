@@ -28,6 +28,11 @@ all-by test other f [] h = refl
 all-by test other f (b ∷ bs) h =
     rw (f b (both-left (test b) (all test bs) h)) (all-by test other f bs (both-right (test b) (all test bs) h))
 
+pub all-append : (test : ℕ → Bool) (xs ys : List ℕ) → all test xs ≡ true → all test ys ≡ true → all test (xs ++ ys) ≡ true
+unfolding all
+all-append test [] ys p q = q
+all-append test (x ∷ xs) ys p q = rw (both-left (test x) (all test xs) p) (all-append test xs ys (both-right (test x) (all test xs) p) q)
+
 pub pass-all : (test : ℕ → Bool) (xs s : List ℕ) → all test xs ≡ true → all (among xs) s ≡ true → all test s ≡ true
 pass-all test xs s h k = all-by (among xs) test (λ b. pass test xs b h) s k
 

@@ -1,7 +1,7 @@
 -- White space and comments bring no token.
 -- Assumes nothing.
 use mathlib.Core.Path.{_≡_, refl, sym, ap, _∙_}
-use mathlib.Core.Bool.{true, false, not, false≢true}
+use mathlib.Core.Bool.{true, false, not, _&&_, false≢true}
 use mathlib.Core.List.{List, [], _∷_, _++_}
 use Prim.Native.Nat.{ℕ, suc, _+_}
 use native.Mathlib.Nat.{zero-add}
@@ -10,17 +10,18 @@ use lib.Dec.{eqb}
 use lib.ListN.{length, take, drop}
 use lib.Seq.{drop-append-add}
 use borrow.Author.Tests.{eqb-true}
-use Rattle.ground.proofs.Tests.{by-test}
-use Rattle.lexicon.specs.Class.{classOf}
+use Rattle.ground.proofs.Tests.{by-test, both-left, both-right}
+use Rattle.lexicon.specs.Class.{whiteSpace, classOf}
 use Rattle.lexicon.specs.Span.{spanBy, inLine, lineSpan}
 use Rattle.tokens.specs.declared.lexeme.Kind.the-variants.{Blank}
 use Rattle.tokens.specs.declared.lexeme.Lexeme.{Lexeme}
-use Rattle.tokens.specs.Lexeme.{lexeme, single, byClass, lexemeAt}
+use Rattle.tokens.specs.Lexeme.{lexeme, byClass, lexemeAt}
 use Rattle.tokens.specs.Piece.{pieceOf, pieceAt, emit, lex}
 use Rattle.tokens.proofs.Lexes.{lex-at}
+use Rattle.tokens.proofs.Pasts.{lex-blank}
 use Rattle.ground.specs.Lists.{all}
 use Rattle.standard.specs.Bytes.{among, whiteSpaces, lineEnds}
-use Rattle.standard.specs.Limits.{lineFed}
+use Rattle.standard.specs.Limits.{blankLine, lineFed}
 use Rattle.standard.proofs.Runs.{pass, all-by, span-over}
 
 -- what stands first, and what is left
@@ -37,12 +38,12 @@ pub at-class : (k b : ℕ) (bs : List ℕ) → classOf b ≡ k → byClass k b b
 unfolding lexemeAt
 at-class k b bs e = sym (ap (λ (c : ℕ). byClass c b bs) e)
 
-white-class : (b : ℕ) → among whiteSpaces b ≡ true → classOf b ≡ 0
-unfolding all classOf
-white-class b h = eqb-true (classOf b) 0 (pass (λ (c : ℕ). eqb (classOf c) 0) whiteSpaces b refl h)
+whites-are : all whiteSpace whiteSpaces ≡ true
+unfolding all
+whites-are = refl
 
 pub lex-white : (b : ℕ) (s : List ℕ) → among whiteSpaces b ≡ true → lex (b ∷ s) ≡ lex s
-lex-white b s h = one-piece b s s (single Blank) (at-class 0 b s (white-class b h)) refl
+lex-white b s h = lex-blank b s (pass whiteSpace whiteSpaces b whites-are h)
 
 -- a comment's bytes, and what of the rest its line still has
 line : (x s : List ℕ) → all inLine x ≡ true → lex (0x3B ∷ (x ++ s)) ≡ lex (drop (lineSpan s) s)
@@ -57,18 +58,27 @@ in-line : (b : ℕ) → not (among lineEnds b) ≡ true → inLine b ≡ true
 unfolding among inLine
 in-line b h = by-test (eqb b 0x0A) (λ e. absurd (false≢true (rw e at h))) (λ e. rw e)
 
-stops : (e : ℕ) (s : List ℕ) → eqb e 0x0A ≡ true → lineSpan (e ∷ s) ≡ 0
+stops : (b : ℕ) (s : List ℕ) → eqb b 0x0A ≡ true → lineSpan (b ∷ s) ≡ 0
 unfolding spanBy inLine
-stops e s h = rw h
+stops b s h = rw h
 
-goes : (e : ℕ) (s : List ℕ) → eqb e 0x0A ≡ false → lineSpan s ≡ 0 → lineSpan (e ∷ s) ≡ 1
+goes : (b : ℕ) (s : List ℕ) → eqb b 0x0A ≡ false → lineSpan (b ∷ s) ≡ suc (lineSpan s)
 unfolding spanBy inLine
-goes e s h k = rw (h, k)
+goes b s h = rw h
 
-fed : (e : ℕ) (s : List ℕ) → eqb e 0x0A ≡ false → lineFed e s ≡ true → lineSpan s ≡ 0
-unfolding spanBy inLine
-fed e [] h k = refl
-fed e (b ∷ bs) h k = stops b bs (rw h at k)
+-- what is left of a line that brings no token
+blank-line : (s : List ℕ) → blankLine s ≡ true → lex (drop (lineSpan s) s) ≡ lex s
+unfolding blankLine spanBy all
+blank-line [] h = refl
+blank-line (b ∷ bs) h =
+    by-test (eqb b 0x0A)
+    (λ t. ap (λ (n : ℕ). lex (drop n (b ∷ bs))) (stops b bs t))
+    (λ t. ap (λ (n : ℕ). lex (drop n (b ∷ bs))) (goes b bs t)
+    ∙ by-test (eqb b 0x3B)
+    (λ c. sym (line [] bs refl) ∙ ap (λ (x : ℕ). lex (x ∷ bs)) (sym (eqb-true b 0x3B c)))
+    (λ c.
+    let k : (among whiteSpaces b && blankLine bs) ≡ true = rw (t, c) at h in
+    blank-line bs (both-right (among whiteSpaces b) (blankLine bs) k) ∙ sym (lex-white b bs (both-left (among whiteSpaces b) (blankLine bs) k))))
 
 feed : (e : ℕ) → eqb e 0x0A ≡ true → among whiteSpaces e ≡ true
 unfolding among
@@ -80,4 +90,4 @@ lex-comment x e s h k =
     line x (e ∷ s) (all-by (λ (b : ℕ). not (among lineEnds b)) inLine in-line x h)
     ∙ by-test (eqb e 0x0A)
     (λ t. ap (λ (n : ℕ). lex (drop n (e ∷ s))) (stops e s t) ∙ lex-white e s (feed e t))
-    (λ t. ap (λ (n : ℕ). lex (drop n (e ∷ s))) (goes e s t (fed e s t k)))
+    (λ t. ap (λ (n : ℕ). lex (drop n (e ∷ s))) (goes e s t) ∙ blank-line s (rw t at k))

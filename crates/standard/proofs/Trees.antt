@@ -10,11 +10,12 @@ use Rattle.brackets.specs.Walk.{snoc, going, add, walk, Outcome, tree, refused,
 use Rattle.brackets.proofs.Snoc.{chain, chain-nil, chain-snoc}
 use Rattle.reader.specs.Read.{outcome, parse}
 use Rattle.reader.proofs.Answers.{read-left}
-use Rattle.standard.specs.Written.{Atom, numeral, decimal, hexadecimal, binary, literal, simple, barred, keyword, Token, closes, Expression, Expressions, one, several, none, first, tokens, tokensOf, Written}
+use Rattle.standard.specs.Written.{Atom, numeral, decimal, hexadecimal, binary, literal, simple, barred, keyword, WellFormed, Token, closes, Expression, Expressions, one, several, none, first, tokens, tokensOf, Written}
 use Rattle.standard.specs.Image.{imageOf, image, images}
-use Rattle.standard.specs.Limits.{Within, WithinAll, noLoneReturn}
-use Rattle.standard.specs.Agreement.{ReadAsImage}
-use Rattle.standard.proofs.Texts.{atomOf, ours, CoveredAll, lex-spells}
+use Rattle.standard.specs.Limits.{Covered, Each, EachOf, Within, noLoneReturn}
+use Rattle.standard.specs.Agreement.{Kept, ReadAsImage}
+use Rattle.standard.proofs.Vectors.{hexadecimal-held, binary-held}
+use Rattle.standard.proofs.Texts.{atomOf, ours, OfTokens, formed, lex-spells}
 
 leaf-is : (a : Atom) → leaf (atomOf a) ≡ imageOf a
 leaf-is (numeral ds) = refl
@@ -39,23 +40,54 @@ mutual
       walk-one x (ks ∷ st) (tokensOf xs us) ∙ walk-all xs (snoc ks (image x)) st us
       ∙ ap (λ (l : Trees). walk (going (l ∷ st)) (ours us)) (chain-snoc ks (image x) (images xs))
 
-mutual
-  covered : (x : Expression) (us : List Token) → Within x → CoveredAll us → CoveredAll (tokens x us)
-  covered (one a) us h c = (h, c)
-  covered (several xs) us h c = (tt, covered-all xs (closes ∷ us) h (tt, c))
+-- what is asked of each atom of an S-expression is asked of each among its tokens, and the other way round
+module _ (Asked : Atom → Type 0) where
+  mutual
+    among : (x : Expression) (us : List Token) → Each Asked x → OfTokens Asked us → OfTokens Asked (tokens x us)
+    among (one a) us h c = (h, c)
+    among (several xs) us h c = (tt, among-all xs (closes ∷ us) h (tt, c))
 
-  covered-all : (xs : Expressions) (us : List Token) → WithinAll xs → CoveredAll us → CoveredAll (tokensOf xs us)
-  covered-all none us h c = c
-  covered-all (first x xs) us h c = covered x (tokensOf xs us) (h .0) (covered-all xs us (h .1) c)
+    among-all : (xs : Expressions) (us : List Token) → EachOf Asked xs → OfTokens Asked us → OfTokens Asked (tokensOf xs us)
+    among-all none us h c = c
+    among-all (first x xs) us h c = among x (tokensOf xs us) (h .0) (among-all xs us (h .1) c)
+
+  mutual
+    each : (x : Expression) (us : List Token) → OfTokens Asked (tokens x us) → Each Asked x × OfTokens Asked us
+    each (one a) us c = c
+    each (several xs) us c = let k = each-of xs (closes ∷ us) (c .1) in (k .0, k .1 .1)
+
+    each-of : (xs : Expressions) (us : List Token) → OfTokens Asked (tokensOf xs us) → EachOf Asked xs × OfTokens Asked us
+    each-of none us c = (tt, c)
+    each-of (first x xs) us c = let k = each x (tokensOf xs us) c in let l = each-of xs us (k .1) in ((k .0, l .0), l .1)
+
+kept : (a : Atom) → WellFormed a → Covered a → Kept a
+kept (numeral ds) h c = tt
+kept (decimal ds es) h c = tt
+kept (hexadecimal ds) h c = hexadecimal-held ds h c .kept
+kept (binary ds) h c = binary-held ds h c .kept
+kept (literal s) h c = tt
+kept (simple s) h c = tt
+kept (barred s) h c = tt
+kept (keyword s) h c = tt
+
+mutual
+  kept-each : (x : Expression) → Each WellFormed x → Within x → Each Kept x
+  kept-each (one a) h c = kept a h c
+  kept-each (several xs) h c = kept-all xs h c
+
+  kept-all : (xs : Expressions) → EachOf WellFormed xs → EachOf Covered xs → EachOf Kept xs
+  kept-all none h c = tt
+  kept-all (first x xs) h c = (kept-each x (h .0) (c .0), kept-all xs (h .1) (c .1))
 
 read-parsed : (x : Expression) (s : List ℕ) (w : Written x s) → Within x → noLoneReturn w ≡ true → parse s ≡ tree (image x)
 unfolding parse
-read-parsed x s w h k = ap outcome (lex-spells w (covered x [] h tt) k) ∙ ap finish (walk-one x [] [])
+read-parsed x s w h k = ap outcome (lex-spells w (among Covered x [] h tt) k) ∙ ap finish (walk-one x [] [])
 
 pub standard-read : (x : Expression) (s : List ℕ) (w : Written x s) → ReadAsImage x s w
 standard-read x s w = record {
   parsed = read-parsed x s w;
   left = λ h k l N T S. read-left s N T S (image x) (read-parsed x s w h k) l;
+  signs = kept-each x (each WellFormed x [] (formed w) .0);
 }
 
 abbrev treeOr : Tree → Outcome → Tree

@@ -1,10 +1,11 @@
 -- SMT-LIB 2.7 §3.1 beside document 01: an S-expression as it may be written, and the smallest bytes at each limit and departure.
 use mathlib.Core.Path.{_≡_, refl, sym, ap, _∙_}
-use mathlib.Core.List.{List, [], _∷_}
+use mathlib.Core.Bool.{true}
+use mathlib.Core.List.{List, [], _∷_, _++_}
 use Prim.Native.Nat.{ℕ, suc, _-_, _^_}
 use native.Mathlib.Omega.{arith}
-use lib.IntN.{pos, negsuc}
-use lib.ListN.{length}
+use lib.IntN.{ℤ, pos, negsuc}
+use lib.ListN.{length, replicate}
 use Rattle.refusals.specs.declared.Refusal.the-variants.{UnexpectedEnd, StringParseError, ParseIntError, TrailingTokens}
 use Rattle.words.specs.Radix.{worth}
 use Rattle.words.specs.Run as Run
@@ -21,25 +22,31 @@ use Rattle.theory.specs.Literal.{unquoted}
 use Rattle.theory.specs.Theory.{isHex, hexValue, numberBy, spelledBy, charactersBy, characters}
 use Rattle.lexicon.specs.Class.{classOf}
 use Rattle.lexicon.specs.Span.{spanBy, inSymbol, inLine}
-use Rattle.arena.specs.Tree.{string, symbol, text}
+use Rattle.arena.specs.Tree.{string, text}
 use Rattle.brackets.specs.Walk.{Outcome, tree, refused}
 use Rattle.tokens.specs.Lexeme.{inside, lexemeAt}
 use Rattle.tokens.specs.Piece.{pieceAt, lexAfter}
 use Rattle.reader.specs.Read.{parse}
 use Rattle.ground.specs.Lists.{all}
 use Rattle.standard.specs.Bytes.{among, from, decimalDigits, hexadecimalDigits, symbolStarts, symbolBytes}
-use Rattle.standard.specs.Written.{numeral, decimal, hexadecimal, literal, simple, barred, keyword, empty, byte, doubled, nothing, white, comment, opening, closing, token, Expression, one, several, none, first, Written}
-use Rattle.standard.specs.Image.{image}
+use Rattle.standard.specs.Written.{numeral, decimal, hexadecimal, binary, literal, simple, barred, keyword, empty, byte, doubled, nothing, white, comment, opening, closing, token, Expression, one, several, none, first, Written}
+use Rattle.standard.specs.Image.{signedBy, twos, image}
+use Rattle.standard.specs.Limits.{blankLine, noLoneReturn}
+use Rattle.standard.specs.Agreement.{Kept}
 
--- `(a #xF;!`, a carriage return and a line feed, `"""" :b)`
+-- `(a #xF;!`, a carriage return, `;`, a line feed, `"""" :b |1|)`
 sample : Written
-    (several (first (one (simple (bytes "a"))) (first (one (hexadecimal (bytes "F"))) (first (one (literal (bytes "\"\""))) (first (one (keyword (bytes "b"))) none)))))
-    (bytes "(a #xF;!\r\n\"\"\"\" :b)")
+    (several (first (one (simple (bytes "a"))) (first (one (hexadecimal (bytes "F"))) (first (one (literal (bytes "\"\""))) (first (one (keyword (bytes "b"))) (first (one (barred (bytes "1"))) none))))))
+    (bytes "(a #xF;!\r;\n\"\"\"\" :b |1|)")
 unfolding among all from decimalDigits hexadecimalDigits symbolStarts symbolBytes
 sample =
     opening (token (simple (bytes "a")) refl refl (white refl (token (hexadecimal (bytes "F")) refl refl
-    (comment (bytes "!") 0x0D refl refl (white refl (token (literal (bytes "\"\"")) (doubled empty) refl
-    (white refl (token (keyword (bytes "b")) refl refl (closing nothing)))))))))
+    (comment (bytes "!") 0x0D refl refl (comment [] 0x0A refl refl (token (literal (bytes "\"\"")) (doubled empty) refl
+    (white refl (token (keyword (bytes "b")) refl refl (white refl (token (barred (bytes "1")) refl refl (closing nothing)))))))))))
+
+sample-fed : noLoneReturn sample ≡ true
+unfolding sample blankLine
+sample-fed = refl
 
 -- bytes that are the S-expression by the standard, and that ours refuses or reads as another tree
 pub record Departs (x : Expression) (s : List ℕ) : Type 0 where
@@ -75,16 +82,16 @@ a-decimal = record {
   other = λ e. let n : _≡_ {A = ℕ} 0 4 = ap size (sym decimal-read ∙ e) in omega arith;
 }
 
--- `||`: the bars are kept
-bars-read : parse (bytes "||") ≡ tree (symbol (bytes "||"))
+-- `| |`: two symbols of one bar each
+bars-read : parse (bytes "| |") ≡ refused TrailingTokens
 unfolding parse lexAfter pieceAt lexemeAt classOf spanBy inSymbol utf8 octets
 bars-read = refl
 
-pub a-barred : Departs (one (barred [])) (bytes "||")
-unfolding all
+pub a-barred : Departs (one (barred (bytes " "))) (bytes "| |")
+unfolding among all
 a-barred = record {
-  written = token (barred []) refl refl nothing;
-  other = λ e. let n : _≡_ {A = ℕ} 3 1 = ap size (sym bars-read ∙ e) in omega arith;
+  written = token (barred (bytes " ")) refl refl nothing;
+  other = λ e. let n : _≡_ {A = ℕ} 0 4 = ap size (sym bars-read ∙ e) in omega arith;
 }
 
 -- 2^128
@@ -131,11 +138,25 @@ raw-read : parse (0x22 ∷ 0xC3 ∷ 0xA9 ∷ 0x22 ∷ []) ≡ tree (string (0xC3
 unfolding parse lexAfter pieceAt lexemeAt classOf inside anySurrogate scalar pointsAfter characterAt escape S.text encodings encoded
 raw-read = refl
 
--- `#b0` and 128 ones: -1, and 2^128-1 by the standard
-wide-read : signed 128 (extended 129 (2 ^ 128 - 1)) ≡ negsuc 0
-unfolding signed extended
+-- `#b0` and 128 ones: 2^128-1 by the standard; its 128 bits, read as signed, are -1
+abbrev wide : List ℕ
+wide = 0x30 ∷ replicate 128 0x31
+
+wide-parsed : parse (bytes "#b" ++ wide) ≡ tree (image (one (binary wide)))
+unfolding parse lexAfter pieceAt lexemeAt classOf spanBy parsed all Run.from worth extended signed
+wide-parsed = refl
+
+wide-standard : signedBy 1 2 wide ≡ pos (2 ^ 128 - 1)
+unfolding signed Run.from worth
+wide-standard = refl
+
+wide-read : signed 128 (twos (signedBy 1 2 wide)) ≡ negsuc 0
+unfolding signed Run.from worth
 wide-read = refl
 
-wide-standard : signed 129 (2 ^ 128 - 1) ≡ pos (2 ^ 128 - 1)
-unfolding signed
-wide-standard = refl
+abbrev below : ℤ → ℕ
+below (pos n) = 0
+below (negsuc n) = 1
+
+pub too-wide : Kept (binary wide) → ⊥
+too-wide e = let n : _≡_ {A = ℕ} 1 0 = ap below (sym wide-read ∙ e ∙ wide-standard) in omega arith

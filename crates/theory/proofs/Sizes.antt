@@ -1,18 +1,18 @@
 -- How great the number of a form can be; the characters of a literal are 0 to 2FFFF, and of those just the surrogates have no UTF-8.
 -- Assumes nothing.
 use mathlib.Core.Path.{_≡_, refl, sym, _∙_}
-use mathlib.Core.Bool.{Bool, true, false, not, _&&_, _||_, true≢false}
+use mathlib.Core.Bool.{Bool, true, false, not, _&&_, _||_}
 use mathlib.Core.List.{List, [], _∷_}
 use mathlib.Core.Option.{some, Option·none-ne-some}
 use Prim.Native.Nat.{ℕ, zero, suc, _+_, _*_, _≤_}
 use native.Mathlib.Omega.{arith}
 use lib.Dec.{leb, eqb}
-use borrow.Author.Tests.{le-leb, lt-leb, ne-eqb, leb-true}
+use borrow.Author.Tests.{le-leb, lt-leb, leb-true, ltb-true}
 use Rattle.ground.proofs.Tests.{by-order, and-false, both-left, both-right}
 use Rattle.utf8.specs.Encoding.{scalar}
 use Rattle.utf8.proofs.Encodings.{Between, scalar-low, scalar-surrogate, scalar-high}
 use Rattle.strings.specs.Text.{anySurrogate}
-use Rattle.theory.specs.Literal.{within, printable, whiteSpace, Literal, empty, byte, doubled, unquoted}
+use Rattle.theory.specs.Literal.{within, Literal, empty, byte, doubled, unquoted}
 use Rattle.theory.specs.Theory.{isHex, hexValue, Place, only, digit, escapes, numberBy, spelledBy, charactersBy, characters}
 use Rattle.theory.specs.Agreement.{noneWithin}
 use Rattle.theory.proofs.Forms.{taken, by-form, all}
@@ -59,18 +59,11 @@ all-small fs h k [] l = tt
 all-small fs h (suc k) (b ∷ bs) l = all-small fs h k bs (l .2)
 all-small fs h zero (b ∷ bs) l = (omega arith, spelled-small fs h b bs (l .1), all-small fs h (spelledBy fs b bs .more) bs (l .2))
 
-lexical-small : (b : ℕ) → (printable b || whiteSpace b) ≡ true → b ≤ 0x7E
-lexical-small b h =
-    by-order 0x7E b
-    (λ l.
-    absurd (true≢false (sym h ∙ rw (lt-leb b 0x7E l, and-false (leb 0x20 b), ne-eqb b 0x09 (omega arith), ne-eqb b 0x0A (omega arith), ne-eqb b 0x0D (omega arith), ne-eqb b 0x20 (omega arith)))))
-    (λ l. l)
-
 unquoted-small : {s : List ℕ} → Literal s → Between 0 0x2FFFF (unquoted s)
 unfolding unquoted
 unquoted-small empty = tt
 unquoted-small (doubled l) = (omega arith, omega arith, unquoted-small l)
-unquoted-small (byte {b} h q l) = let k = lexical-small b h in rw q (omega arith, omega arith, unquoted-small l)
+unquoted-small (byte {b} h q l) = let k = ltb-true b 0x80 h in rw q (omega arith, omega arith, unquoted-small l)
 
 pub characters-small : {s : List ℕ} → Literal s → Between 0 0x2FFFF (characters (unquoted s))
 unfolding characters

@@ -7,7 +7,7 @@ use lib.ListN.{length}
 use Rattle.words.specs.declared.digits.Radix.{Radix}
 use Rattle.words.specs.declared.digits.Radix.the-variants.{Binary, Decimal, Hexadecimal}
 use Rattle.words.specs.Radix.{isDigit}
-use Rattle.lexicon.specs.Class.{classOf, blank, opening, closing, comment, quote, hash, digit}
+use Rattle.lexicon.specs.Class.{whiteSpace, classOf, blank, opening, closing, comment, quote, hash, digit}
 use Rattle.lexicon.specs.Span.{spanBy, symbolSpan, lineSpan}
 use Rattle.tokens.specs.declared.lexeme.Kind.{Kind}
 use Rattle.tokens.specs.declared.lexeme.Kind.the-variants.{Blank, Opening, Closing, Bits, Number, Quoted, Name, Stray, Unclosed}
@@ -23,6 +23,10 @@ single kind = lexeme kind 0 0 1
 -- the longest run of a radix's digits
 abbrev pub runSpan : Radix → List ℕ → ℕ
 runSpan r s = spanBy (isDigit r) s
+
+-- white space that comes first
+abbrev pub blankSpan : List ℕ → ℕ
+blankSpan s = spanBy whiteSpace s
 
 -- the bytes up to the quote that closes a string, or to the end: two quotes close nothing
 unfoldable pub inside : List ℕ → ℕ

@@ -1,3 +1,2 @@
 pub mod Lexeme
 pub mod Piece
-pub mod Past

@@ -7,7 +7,7 @@ use reader::Reading;
 use refusals::Refusal;
 ghost use mathlib.Core.Path.{_≡_};
 ghost use lib.ListN.{length};
-ghost use Rattle.reader.specs.Rooms.{programWords};
+ghost use Rattle.reader.specs.Program.{programWords};
 
 fn main() {
     let mut input = io::large_buffer();
