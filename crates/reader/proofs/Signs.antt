@@ -3,39 +3,42 @@
 use mathlib.Core.Path.{_≡_, sym, ap, _∙_, subst}
 use mathlib.Core.Bool.{true}
 use mathlib.Core.List.{List, [], _∷_}
-use Prim.Native.Nat.{ℕ, _+_, _-_, _*_, _%_, _^_, _≤_, _<_}
+use Prim.Native.Nat.{ℕ, suc, _+_, _-_, _*_, _%_, _^_, _≤_, _<_}
 use native.Mathlib.Omega.{arith}
-use native.Mathlib.Nat.{mod-eq-of-lt, add-mul, one-mul}
+use native.Mathlib.Nat.{mod-eq-of-lt, add-mul, one-mul, mul-one, mul-zero, mul-suc, mul-assoc, add-comm}
 use lib.ListN.{length}
 use lib.Pow.{pow-pos, pow-mono, pow-add, low}
 use borrow.Author.Tests.{ltb-true}
 use Rattle.ground.specs.Lists.{all}
 use Rattle.ground.proofs.Tests.{by-order, by-test, both-left, both-right}
+use Rattle.words.specs.declared.digits.Radix.{Radix}
 use Rattle.words.specs.declared.digits.Radix.the-variants.{Binary, Hexadecimal}
-use Rattle.words.specs.Radix.{worth, isDigit}
-use Rattle.words.specs.Run.{from, digits}
+use Rattle.words.specs.Radix.{baseOf, worth, isDigit}
+use Rattle.words.specs.Run.{from, number, digits}
 use Rattle.words.specs.Extension.{negative, filled, extended}
 use Rattle.words.proofs.Extends.{extended-wide, extended-positive, extended-negative}
 use Rattle.arena.specs.Tree.{BitVector, mostWidth}
 
--- so many bits more hold one digit more
-pub binary-below : (p n : ℕ) (s : List ℕ) → n < 2 ^ p → digits Binary s ≡ true → from 2 n s < 2 ^ (p + 1 * length s)
-unfolding all from
-binary-below p n [] h d = subst (λ (k : ℕ). n < 2 ^ k) (omega arith) h
-binary-below p n (b ∷ bs) h d =
-    let v : worth b < 2 = ltb-true (worth b) 2 (both-left (isDigit Binary b) (digits Binary bs) d) in
-    let q : 2 ^ (p + 1) ≡ 2 ^ p * 2 = pow-add 2 p 1 in
-    subst (λ (k : ℕ). from 2 (n * 2 + worth b) bs < 2 ^ k) (omega arith)
-    (binary-below (p + 1) (n * 2 + worth b) bs (omega arith) (both-right (isDigit Binary b) (digits Binary bs) d))
+-- so many digits stand for a number of so many bits, per bits a digit
+module _ (r : Radix) (per : ℕ) (step : (n x d : ℕ) → n < x → d < baseOf r → n * baseOf r + d < x * 2 ^ per) where
+  below : (s : List ℕ) (n x : ℕ) → digits r s ≡ true → n < x → from (baseOf r) n s < x * 2 ^ (per * length s)
+  unfolding from all
+  below [] n x h l = subst (λ (k : ℕ). n < k) (sym (ap (λ (e : ℕ). x * 2 ^ e) (mul-zero per) ∙ mul-one x)) l
+  below (b ∷ bs) n x h l =
+      let e : per + per * length bs ≡ per * suc (length bs) = add-comm per (per * length bs) ∙ sym (mul-suc per (length bs)) in
+      subst (λ (k : ℕ). from (baseOf r) (n * baseOf r + worth b) bs < k)
+      (mul-assoc x (2 ^ per) (2 ^ (per * length bs)) ∙ ap (λ (k : ℕ). x * k) (sym (pow-add 2 per (per * length bs)) ∙ ap (λ (k : ℕ). 2 ^ k) e))
+      (below bs (n * baseOf r + worth b) (x * 2 ^ per) (both-right (isDigit r b) (digits r bs) h)
+      (step n x (worth b) l (ltb-true (worth b) (baseOf r) (both-left (isDigit r b) (digits r bs) h))))
 
-pub hexadecimal-below : (p n : ℕ) (s : List ℕ) → n < 2 ^ p → digits Hexadecimal s ≡ true → from 16 n s < 2 ^ (p + 4 * length s)
-unfolding all from
-hexadecimal-below p n [] h d = subst (λ (k : ℕ). n < 2 ^ k) (omega arith) h
-hexadecimal-below p n (b ∷ bs) h d =
-    let v : worth b < 16 = ltb-true (worth b) 16 (both-left (isDigit Hexadecimal b) (digits Hexadecimal bs) d) in
-    let q : 2 ^ (p + 4) ≡ 2 ^ p * 16 = pow-add 2 p 4 in
-    subst (λ (k : ℕ). from 16 (n * 16 + worth b) bs < 2 ^ k) (omega arith)
-    (hexadecimal-below (p + 4) (n * 16 + worth b) bs (omega arith) (both-right (isDigit Hexadecimal b) (digits Hexadecimal bs) d))
+  number-below : (s : List ℕ) → digits r s ≡ true → number (baseOf r) s < 2 ^ (per * length s)
+  number-below s h = subst (λ (k : ℕ). number (baseOf r) s < k) (one-mul (2 ^ (per * length s))) (below s 0 1 h (omega arith))
+
+pub binary-below : (s : List ℕ) → digits Binary s ≡ true → number 2 s < 2 ^ (1 * length s)
+binary-below s h = number-below Binary 1 (λ n x d l m. omega arith) s h
+
+pub hexadecimal-below : (s : List ℕ) → digits Hexadecimal s ≡ true → number 16 s < 2 ^ (4 * length s)
+hexadecimal-below s h = number-below Hexadecimal 4 (λ n x d l m. omega arith) s h
 
 -- no number as large as 2 ^ 128 stands in what is asked below: t is any
 under : (n p t : ℕ) → n < p → p ≤ t → n + (t - p) < t

@@ -3,7 +3,7 @@
 use mathlib.Core.Path.{_≡_, refl, sym, _∙_, subst}
 use mathlib.Core.Bool.{Bool, true, false, cond, _&&_}
 use mathlib.Core.List.{List, [], _∷_, _++_}
-use Prim.Native.Nat.{ℕ, zero, suc, _+_, _-_, _*_, _^_, _≤_, _<_}
+use Prim.Native.Nat.{ℕ, zero, suc, _*_, _^_, _≤_, _<_}
 use native.Mathlib.Omega.{arith}
 use lib.Dec.{eqb, ltb}
 use lib.ListN.{length, take, drop, length-take, length-drop}
@@ -84,13 +84,13 @@ run-sound r s make go = run-when r s (someByte s) (digits r s) (ltb (number (bas
 binary-sound : (x : List ℕ) (n : ℕ) → length x ≤ inputLimit → Run Binary x n → BitVector (1 * length x) (extended (1 * length x) n)
 binary-sound x n h u =
     extended-sound (1 * length x) n (omega (arith, u .some))
-    (subst (λ (k : ℕ). n < 2 ^ k) (omega arith) (subst (λ (k : ℕ). k < 2 ^ (0 + 1 * length x)) (sym (u .is)) (binary-below 0 0 x (omega arith) (u .all))))
+    (subst (λ (k : ℕ). k < 2 ^ (1 * length x)) (sym (u .is)) (binary-below x (u .all)))
     (u .below) (omega arith)
 
 hexadecimal-sound : (x : List ℕ) (n : ℕ) → length x ≤ inputLimit → Run Hexadecimal x n → BitVector (4 * length x) (extended (4 * length x) n)
 hexadecimal-sound x n h u =
     extended-sound (4 * length x) n (omega (arith, u .some))
-    (subst (λ (k : ℕ). n < 2 ^ k) (omega arith) (subst (λ (k : ℕ). k < 2 ^ (0 + 4 * length x)) (sym (u .is)) (hexadecimal-below 0 0 x (omega arith) (u .all))))
+    (subst (λ (k : ℕ). k < 2 ^ (4 * length x)) (sym (u .is)) (hexadecimal-below x (u .all)))
     (u .below) (omega arith)
 
 -- the lexer gives no bit vector of radix 10

@@ -21,16 +21,16 @@ white-class : (b : ℕ) → whiteSpace b ≡ true → classOf b ≡ blank
 unfolding classOf
 white-class b e = rw e
 
-some : (t : Bool) (n m : ℕ) → 0 < n → 0 < m → 0 < cond t n m
-some true n m h k = h
-some false n m h k = k
+nonzero : (t : Bool) (n m : ℕ) → 0 < n → 0 < m → 0 < cond t n m
+nonzero true n m h k = h
+nonzero false n m h k = k
 
 not-white : (b : ℕ) → whiteSpace b ≡ false → 0 < classOf b
 unfolding classOf
 not-white b e =
     rw e
-    (some (eqb b 0x28) _ _ (omega arith) (some (eqb b 0x29) _ _ (omega arith) (some (eqb b 0x3B) _ _ (omega arith) (some (eqb b 0x22) _ _ (omega arith)
-    (some (eqb b 0x23) _ _ (omega arith) (some (leb 0x30 b && leb b 0x39) _ _ (omega arith) (omega arith)))))))
+    (nonzero (eqb b 0x28) _ _ (omega arith) (nonzero (eqb b 0x29) _ _ (omega arith) (nonzero (eqb b 0x3B) _ _ (omega arith) (nonzero (eqb b 0x22) _ _ (omega arith)
+    (nonzero (eqb b 0x23) _ _ (omega arith) (nonzero (leb 0x30 b && leb b 0x39) _ _ (omega arith) (omega arith)))))))
 
 -- what the class of a byte says of it
 pub is-white : (b : ℕ) → classOf b ≡ blank → whiteSpace b ≡ true
