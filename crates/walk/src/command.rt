@@ -7,6 +7,7 @@ use definitions::check_variable;
 use refusals::Refusal;
 use tables::Found;
 use tables::clamp;
+use tables::count;
 use tables::find_function;
 use tables::find_variable;
 use tables::word;
@@ -15,15 +16,19 @@ ghost use Rattle.walk.specs.Noted.{notedAs, NotesVariable, NotesFunction
 
 pub enum Noted {
     Skipped,
-    Defines { slot: usize, need: usize },
+    Defines {
+        slot: usize,
+        value: usize,
+        need: usize,
+    },
     Refused(Refusal),
 }
 
-fn noted_as(measured: Measured, slot: usize) -> Noted
-    ensures { λ r. ⌜ r ≡ notedAs measured slot ⌝ }
+fn noted_as(measured: Measured, slot: usize, value: usize) -> Noted
+    ensures { λ r. ⌜ r ≡ notedAs measured slot value ⌝ }
 {
     match measured {
-        Measured::Need(need) => Noted::Defines { slot, need },
+        Measured::Need(need) => Noted::Defines { slot, value, need },
         Measured::Refused(refusal) => Noted::Refused(refusal),
     }
 }
@@ -63,7 +68,7 @@ fn note_variable(
                 sort,
                 value,
             );
-            noted_as(measured, row * 2)
+            noted_as(measured, row, value)
         }
         Found::NoRow => Noted::Skipped,
     }
@@ -112,7 +117,7 @@ fn note_function(
                 sort,
                 body,
             );
-            noted_as(measured, row * 2 + 1)
+            noted_as(measured, count(variables) + row, body)
         }
         Found::NoRow => Noted::Skipped,
     }
