@@ -7,7 +7,7 @@ use mathlib.Core.Option.{Option, none, some}
 use Prim.Native.Nat.{ℕ, _+_, _*_, _-_, _/_, _≤_, _<_}
 use native.Mathlib.Omega.{arith}
 use lib.Dec.{eqb}
-use lib.ListN.{length, getD, set, replicate, length-set, length-replicate, getD-replicate, List·getD-eq-default}
+use lib.ListN.{length, set, replicate, length-set, length-replicate, getD-replicate, List·getD-eq-default}
 use lib.Seq.{getD-set-same, getD-set-other}
 use borrow.Author.Tests.{eqb-true, eqb-false}
 use Rattle.ground.proofs.Tests.{by-test}
@@ -17,7 +17,7 @@ use Rattle.model.specs.Model.{orElse}
 use Rattle.model.proofs.Choices.{or-none, or-assoc}
 use Rattle.walk.specs.Noted.{slot, size}
 use Rattle.walk.specs.Placed.{Placed}
-use Rattle.walk.specs.Last.{slots, stride, nodeWord, valueWord, needWord, wordAt, lastIn, kept, Words, Holds, Kept}
+use Rattle.walk.specs.Last.{slots, stride, nodeWord, valueWord, needWord, wordAt, lastIn, kept, Holds, Kept}
 
 -- a word past the words
 module _ (last : List ℕ) (k j : ℕ) where
@@ -84,12 +84,17 @@ module _ (l : Lent) where
   HeldAs o last k = Holds o (wordAt last k nodeWord) (wordAt last k valueWord) (wordAt last k needWord)
 
   held-as : (o : Option Placed) (node value long node′ value′ long′ : ℕ) → node ≡ node′ → value ≡ value′ → long ≡ long′ → Holds o node′ value′ long′ → Holds o node value long
-  held-as none node value long node′ value′ long′ p q r h = p ∙ h
+  held-as none node value long node′ value′ long′ p q r h = (p ∙ h .0, q ∙ h .1, r ∙ h .2)
   held-as (some x) node value long node′ value′ long′ p q r h = record { node-is = p ∙ h .node-is; value-is = q ∙ h .value-is; long-is = r ∙ h .long-is }
 
   kept-from : (n : ℕ) → n ≡ slots * stride → Kept l [] (replicate n 0)
   unfolding lastIn
-  kept-from n e = record { full = length-replicate n 0 ∙ e; holds = λ k h. getD-replicate n (k * stride + nodeWord) 0 0 (omega arith) }
+  kept-from n e =
+      record {
+        full = length-replicate n 0 ∙ e;
+        holds = λ k h.
+            (getD-replicate n (k * stride + nodeWord) 0 0 (omega arith), getD-replicate n (k * stride + valueWord) 0 0 (omega arith), getD-replicate n (k * stride + needWord) 0 0 (omega arith));
+      }
 
   pub kept-none : (last : List ℕ) → last ≡ replicate (slots * stride) 0 → Kept l [] last
   kept-none last e = subst (Kept l []) (sym e) (kept-from (slots * stride) refl)

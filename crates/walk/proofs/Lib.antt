@@ -3,3 +3,4 @@ pub mod Sizes
 pub mod Lasts
 pub mod Walks
 pub mod Places
+pub mod One

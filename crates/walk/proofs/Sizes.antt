@@ -15,7 +15,6 @@ use Rattle.arena.proofs.Layouts.{nodes-some}
 use Rattle.tables.specs.Find.{variableRow, functionRow}
 use Rattle.tables.specs.Rules.{lawful}
 use Rattle.tables.specs.Sort.{Variable, Function, Tables}
-use Rattle.tables.proofs.Lawful.{lawful-parts}
 use Rattle.sorts.specs.Result.{Result, ok}
 use Rattle.sorts.specs.Sort.{levels}
 use Rattle.values.specs.Text.{text}
@@ -228,7 +227,3 @@ module _ (T : Tables) (rules : lawful T ≡ true) where
 
   pub tree-given : (t : Tree) (d : Definition) (ds : List Definition) → readCommand T (command t) ≡ ok (d ∷ ds) → Given t d ds
   tree-given t d ds e = command-given t (command t) (command-view t) d ds e
-
-  -- of a tree that an arena holds
-  pub given-small : (t : Tree) (d : Definition) (ds : List Definition) → Given t d ds → nodes t ≤ mostNodes → length (treeText t) ≤ mostText → size d < 2 ^ 48
-  given-small t d ds g h k = omega (arith, g .short, h, k)

@@ -1,11 +1,11 @@
 -- The commands in order: those before, what they defined and where, and the commands that are left.
 -- Assumes nothing.
-use mathlib.Core.Path.{_≡_, refl, sym, ap, ap₂, _∙_, subst}
+use mathlib.Core.Path.{_≡_, refl, sym, ap, _∙_, subst}
 use mathlib.Core.Bool.{true}
 use mathlib.Core.List.{List, [], _∷_, _++_, map, append-assoc, append-nil}
 use Prim.Native.Nat.{ℕ, _+_, _-_, _*_, _≤_, _<_}
 use native.Mathlib.Omega.{arith}
-use lib.ListN.{length, replicate}
+use lib.ListN.{replicate}
 use Rattle.refusals.specs.declared.Refusal.{Refusal}
 use Rattle.arena.specs.Node.{afterAt}
 use Rattle.arena.specs.Tree.{Tree, Trees, nil, cons, count, nodes}
@@ -24,7 +24,7 @@ use Rattle.walk.specs.declared.command.Noted.{Noted}
 use Rattle.walk.specs.declared.walk.Walked.{Walked}
 use Rattle.walk.specs.Placed.{Placed, Within, valueAt, placedAt, placed}
 use Rattle.walk.specs.Noted.{slot, size, noted, NotesAt}
-use Rattle.walk.specs.Last.{slots, stride, needWord, kept, Keeps, Kept}
+use Rattle.walk.specs.Last.{slots, stride, kept, Keeps, Kept}
 use Rattle.walk.specs.Walked.{WalkedAs, Walks}
 use Rattle.walk.proofs.Sizes.{tree-given}
 use Rattle.walk.proofs.Lasts.{kept-none, kept-more}

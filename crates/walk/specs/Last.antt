@@ -46,14 +46,14 @@ kept last k node value long = set (set (set last (k * stride + nodeWord) node) (
 abbrev pub Keeps : List ℕ → ℕ → ℕ → ℕ → ℕ → List ℕ → Type 0
 Keeps entry k node value long exit = k * stride + needWord < length entry → exit ≡ kept entry k node value long
 
--- the words of the last command itself; node 0, which is the root and no command, where none defines the name
+-- the words of the last command itself; zeros where none defines the name, node 0 being the root and no command
 pub record Words (p : Placed) (node value long : ℕ) : Type 0 where
   pub node-is : node ≡ p .node
   pub value-is : value ≡ p .value
   pub long-is : long ≡ capped (size (p .it))
 
 abbrev pub Holds : Option Placed → ℕ → ℕ → ℕ → Type 0
-Holds none node value long = node ≡ 0
+Holds none node value long = (node ≡ 0) × (value ≡ 0) × (long ≡ 0)
 Holds (some p) node value long = Words p node value long
 
 -- each slot holds the last definition of its name

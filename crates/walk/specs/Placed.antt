@@ -14,6 +14,9 @@ pub record Placed : Type 0 where
   pub node : ℕ
   pub value : ℕ
 
+abbrev pub its : List Placed → List Definition
+its ps = map (λ p. p .it) ps
+
 -- its row is one of its table
 abbrev pub Within : Tables → Definition → Type 0
 Within T (isVariable i v) = i < length (T .variables)

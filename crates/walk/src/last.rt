@@ -10,6 +10,9 @@ pub const VALUE: usize = 1;
 // How long its text is.
 pub const NEED: usize = 2;
 
+// A slot for each variable and each function of full tables.
+pub const WORDS: usize = 2048 * STRIDE;
+
 // A later command replaces an earlier one.
 pub fn keep(last: &mut [usize], slot: usize, node: usize, value: usize, need: usize)
     ensures { λ _. ⌜ Keeps (now (last .entry)) slot node value need (now (last .exit)) ⌝ }
