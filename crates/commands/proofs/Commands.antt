@@ -1,6 +1,6 @@
 -- One law for each way out of the matching of a command.
 -- Assumes nothing.
-use mathlib.Core.Path.{_≡_, refl, sym, subst}
+use mathlib.Core.Path.{_≡_, refl, sym, ap, _∙_, subst}
 use mathlib.Core.Bool.{true, false}
 use mathlib.Core.List.{List}
 use Prim.Native.Nat.{ℕ, _+_}
@@ -18,7 +18,7 @@ use Rattle.shapes.proofs.Seen.{not-word, by-word, not-list, by-list}
 use Rattle.shapes.proofs.Arms.{not-symbol, not-app}
 use Rattle.commands.specs.declared.command.CommandFound.{CommandFound}
 use Rattle.commands.specs.Command.{Command, misshapen, argument, arguments, parts, command}
-use Rattle.commands.specs.CommandShows.{CommandShows, CommandAt, FiveAt, ArgumentsAt, ArgumentAt}
+use Rattle.commands.specs.CommandShows.{CommandShows, CommandAt, FiveAt, ArgumentsAt, ArgumentAt, LastAt, fifth}
 
 abbrev Wrong : CommandFound
 Wrong = CommandFound.Refused UnexpectedModel
@@ -147,6 +147,12 @@ module _ (ws ts : List ℕ) (first : ℕ) where
                   let same : parts (All (symbol word) (symbol name) (app us) d e) ≡ arguments name us d e = rw (said-so ts off long word r (bytes "define-fun") true t) in
                   subst (λ (x : Command). CommandShows ws ts f x) (sym same)
                   (k ts name us d e g s (first-of ws ts d (cons e nil) sort 2 p) (first-of ws ts e nil body 1 (others-of ws ts d (cons e nil) sort 2 p body 1 v refl))))
+
+-- the fifth part, one after the other
+pub last-fifth : (ws : List ℕ) (first : ℕ) {second third fourth body : ℕ} → second ≡ afterAt ws first → third ≡ afterAt ws second → fourth ≡ afterAt ws third → body ≡ afterAt ws fourth →
+    (f : CommandFound) → LastAt body f → LastAt (fifth ws first) f
+last-fifth ws first p q r s f h =
+    subst (λ (i : ℕ). LastAt i f) (s ∙ ap (afterAt ws) (r ∙ ap (afterAt ws) (q ∙ ap (afterAt ws) p))) h
 
 -- the whole
 module _ (ws ts : List ℕ) (i : ℕ) (l : Parts) (h : PartsAt ws i l) where

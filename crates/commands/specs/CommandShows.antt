@@ -3,6 +3,7 @@ use mathlib.Core.Path.{_≡_}
 use mathlib.Core.List.{List}
 use Prim.Native.Nat.{ℕ}
 use Rattle.refusals.specs.declared.Refusal.the-variants.{UnexpectedModel}
+use Rattle.arena.specs.Node.{afterAt}
 use Rattle.arena.specs.Tree.{Tree, Trees, nil, cons}
 use Rattle.shapes.specs.Shows.{Standing, StandingAll, Reads}
 use Rattle.commands.specs.declared.command.CommandFound.{CommandFound}
@@ -35,3 +36,13 @@ abbrev pub ArgumentAt : List ℕ → ℕ → ℕ → ℕ → ℕ → ℕ → Com
 ArgumentAt ws size offset first sort body r =
     (ts name : List ℕ) (x a t b : Tree) → Reads name ts offset size → StandingAll (cons x (cons a nil)) ws ts first 2 → Standing t ws ts sort → Standing b ws ts body →
     CommandShows ws ts r (argument name (cons x (cons a nil)) t b)
+
+-- the node of its last part: a variable's value, a function's body
+abbrev pub LastAt : ℕ → CommandFound → Type 0
+LastAt i (CommandFound.Variable size offset sort value) = value ≡ i
+LastAt i (CommandFound.Function size offset argSize argOffset argSort sort body) = body ≡ i
+LastAt i (CommandFound.Refused why) = Unit {0}
+
+-- the fifth of the trees that stand one after the other from the node on
+abbrev pub fifth : List ℕ → ℕ → ℕ
+fifth ws i = afterAt ws (afterAt ws (afterAt ws (afterAt ws i)))

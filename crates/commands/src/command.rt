@@ -6,7 +6,8 @@ use shapes::Parts;
 use shapes::Word;
 use shapes::list_at;
 use shapes::symbol_at;
-ghost use Rattle.commands.specs.CommandShows.{CommandAt, FiveAt, ArgumentsAt, ArgumentAt};
+ghost use Prim.Native.Nat.{_+_};
+ghost use Rattle.commands.specs.CommandShows.{CommandAt, FiveAt, ArgumentsAt, ArgumentAt, LastAt, fifth};
 
 // A command, with its names' texts and the nodes of its other parts.
 pub enum CommandFound {
@@ -38,6 +39,7 @@ fn argument(
     body: usize,
 ) -> CommandFound
     ensures { λ r. ⌜ ArgumentAt (now (nodes .entry)) size offset first sort body r ⌝ }
+    ensures { λ r. ⌜ LastAt body r ⌝ }
 {
     let word = symbol_at(nodes, first);
     let Word::Symbol {
@@ -70,6 +72,7 @@ fn arguments(
     body: usize,
 ) -> CommandFound
     ensures { λ r. ⌜ ArgumentsAt (now (nodes .entry)) size offset first count sort body r ⌝ }
+    ensures { λ r. ⌜ LastAt body r ⌝ }
 {
     if count == 0 {
         return CommandFound::Variable {
@@ -95,6 +98,7 @@ fn arguments(
 // The five parts of a command from a node on.
 fn five(nodes: &[u64], text: &[u8], first: usize) -> CommandFound
     ensures { λ r. ⌜ FiveAt (now (nodes .entry)) (now (text .entry)) first r ⌝ }
+    ensures { λ r. ⌜ LastAt (fifth (now (nodes .entry)) first) r ⌝ }
 {
     let word = symbol_at(nodes, first);
     let Word::Symbol {
@@ -125,6 +129,7 @@ fn five(nodes: &[u64], text: &[u8], first: usize) -> CommandFound
 // The command at a node.
 pub fn command_at(nodes: &[u64], text: &[u8], at: usize) -> CommandFound
     ensures { λ r. ⌜ CommandAt (now (nodes .entry)) (now (text .entry)) at r ⌝ }
+    ensures { λ r. ⌜ LastAt (fifth (now (nodes .entry)) (at + 1)) r ⌝ }
 {
     let list = list_at(nodes, at);
     let Parts::Children(count) = list else {

@@ -37,11 +37,11 @@ pub record Listed (l : Lent) (ws ts : List ℕ) (n : ℕ) (exit : List ℕ) : Ty
   pub long : n ≡ length (listing (tablesOf l) definitions)
   pub demand : Demand (tablesOf l) tree (map settled definitions)
 
-no-length : {R : Type 0} {n : ℕ} {why : Refusal} → Length n ≡ Refused why → R
+pub no-length : {R : Type 0} {n : ℕ} {why : Refusal} → Length n ≡ Refused why → R
 no-length e = let z : _≡_ {A = ℕ} 0 1 = cc in absurd (omega arith)
 
 -- a text that was written
-fronted : (lines : List ℕ) (room : ℕ) (out : List ℕ) (n : ℕ) (exit : List ℕ) → Leaves (fitted lines room out) (Length n) exit → (n ≡ length lines) × (take n exit ≡ lines)
+pub fronted : (lines : List ℕ) (room : ℕ) (out : List ℕ) (n : ℕ) (exit : List ℕ) → Leaves (fitted lines room out) (Length n) exit → (n ≡ length lines) × (take n exit ≡ lines)
 fronted lines room out n exit h =
     by-order (length out) room
     (λ k. no-length (h .answers ∙ ap (λ (x : Left). x .answer) (short lines room out k)))

@@ -1,82 +1,141 @@
--- The definition that is kept for a row's place is the row's last one.
+-- The definition that is kept for a slot is its row's last one, and stands on what it was read from.
 -- Assumes nothing.
-use mathlib.Core.Path.{_≡_, refl, ap₂, _∙_, subst}
+use mathlib.Core.Path.{_≡_, refl, sym, ap, ap₂, _∙_, subst}
 use mathlib.Core.Bool.{cond}
-use mathlib.Core.List.{List, [], _∷_, map}
+use mathlib.Core.List.{List, [], _∷_}
 use mathlib.Core.Option.{Option, none, some}
-use Prim.Native.Nat.{ℕ, _+_, _*_, _<_}
+use Prim.Native.Nat.{ℕ, min, _+_, _^_, _<_}
 use native.Mathlib.Omega.{arith}
 use lib.Dec.{eqb}
-use lib.ListN.{getD}
 use borrow.Author.Tests.{eq-eqb, ne-eqb, eqb-true, eqb-false}
 use Rattle.ground.proofs.Tests.{by-test}
-use Rattle.tables.specs.Layout.{Lent}
-use Rattle.values.specs.Normal.{normal}
+use Rattle.order.specs.Every.{Every, also}
+use Rattle.tables.specs.Layout.{Lent, count, tablesOf}
+use Rattle.tables.proofs.Rows.{variable-count, function-count}
 use Rattle.values.specs.Value.{Value}
+use Rattle.literals.specs.Answer.{capped}
 use Rattle.model.specs.Model.{Table, Definition, isVariable, isFunction, orElse, variableIn, functionIn, lastVariable, lastFunction}
-use Rattle.model.specs.Listing.{settledTable, settled}
-use Rattle.model.proofs.Settled.{settled-variable, settled-function}
 use Rattle.model.proofs.Choices.{mapped, mapped-or}
-use Rattle.walk.specs.Noted.{slot}
-use Rattle.walk.specs.Last.{lastIn, Holds, Kept}
-use Rattle.listing.specs.Lines.{settledValue, settledOption, HoldsVariable, HoldsFunction}
+use Rattle.definitions.specs.Measure.{valueSize, tableSize}
+use Rattle.walk.specs.Noted.{slot, size}
+use Rattle.walk.specs.Last.{slots, nodeWord, valueWord, needWord, wordAt, lastIn, Holds}
+use Rattle.walk.specs.Placed.{Placed, its, Within}
+use Rattle.listing.specs.Grounds.{ValueStands, TableStands, Stands, Grounded, Known}
 
-variable-slot : (i : ℕ) (d : Definition) → cond (eqb (i * 2) (slot d)) (some d) none ≡ mapped (isVariable i) (variableIn i d)
-variable-slot i (isVariable j v) =
-    by-test (eqb i j)
-    (λ h. let e : i ≡ j = eqb-true i j h in rw (h, eq-eqb (i * 2) (j * 2) (omega arith), e) refl)
-    (λ h. let e = eqb-false i j h in rw (h, ne-eqb (i * 2) (j * 2) (λ z. e (omega arith))) refl)
-variable-slot i (isFunction j t) = rw (ne-eqb (i * 2) (j * 2 + 1) (λ z. omega arith)) refl
+-- the last one of a slot's name: none, its variable's, or its function's
+pub data Found (l : Lent) (ws ts : List ℕ) (k : ℕ) : Option Placed → Type 0 where
+  nothing : Found l ws ts k none
+  a-variable : {p : Placed} (v : Value) → p .it ≡ isVariable k v → k < count (l .variables) → Grounded l ws ts p → Found l ws ts k (some p)
+  a-function : {p : Placed} (i : ℕ) (t : Table) → p .it ≡ isFunction i t → k ≡ count (l .variables) + i → i < count (l .functions) → Grounded l ws ts p → Found l ws ts k (some p)
 
-function-slot : (i : ℕ) (d : Definition) → cond (eqb (i * 2 + 1) (slot d)) (some d) none ≡ mapped (isFunction i) (functionIn i d)
-function-slot i (isVariable j v) = rw (ne-eqb (i * 2 + 1) (j * 2) (λ z. omega arith)) refl
-function-slot i (isFunction j t) =
-    by-test (eqb i j)
-    (λ h. let e : i ≡ j = eqb-true i j h in rw (h, eq-eqb (i * 2 + 1) (j * 2 + 1) (omega arith), e) refl)
-    (λ h. let e = eqb-false i j h in rw (h, ne-eqb (i * 2 + 1) (j * 2 + 1) (λ z. e (omega arith))) refl)
+module _ (l : Lent) (ws ts : List ℕ) (k : ℕ) where
+  found-as : (p : Placed) (d : Definition) → p .it ≡ d → Within (tablesOf l) d → k ≡ slot l d → Grounded l ws ts p → Found l ws ts k (some p)
+  found-as p (isVariable i v) e w h g = let n = variable-count l in a-variable v (e ∙ ap (λ (j : ℕ). isVariable j v) (sym h)) (omega arith) g
+  found-as p (isFunction i t) e w h g = let n = function-count l in a-function i t e h (omega arith) g
 
-pub last-variable : (i : ℕ) (ds : List Definition) → lastIn (i * 2) ds ≡ mapped (isVariable i) (lastVariable i ds)
-unfolding lastIn lastVariable
-last-variable i [] = refl
-last-variable i (d ∷ ds) =
-    ap₂ (λ (a b : Option Definition). orElse a b) (last-variable i ds) (variable-slot i d) ∙ mapped-or (isVariable i) (lastVariable i ds) (variableIn i d)
+  found-if : (p : Placed) → Grounded l ws ts p → Found l ws ts k (cond (eqb k (slot l (p .it))) (some p) none)
+  found-if p g =
+      by-test (eqb k (slot l (p .it)))
+      (λ h. rw h (found-as p (p .it) refl (g .within) (eqb-true k (slot l (p .it)) h) g))
+      (λ h. rw h nothing)
 
-pub last-function : (i : ℕ) (ds : List Definition) → lastIn (i * 2 + 1) ds ≡ mapped (isFunction i) (lastFunction i ds)
-unfolding lastIn lastFunction
-last-function i [] = refl
-last-function i (d ∷ ds) =
-    ap₂ (λ (a b : Option Definition). orElse a b) (last-function i ds) (function-slot i d) ∙ mapped-or (isFunction i) (lastFunction i ds) (functionIn i d)
+  found-or : (a b : Option Placed) → Found l ws ts k a → Found l ws ts k b → Found l ws ts k (orElse a b)
+  found-or none b f g = g
+  found-or (some p) b f g = f
 
-settled-value : (o : Option Value) → mapped normal o ≡ settledValue o
-settled-value none = refl
-settled-value (some v) = refl
+  pub slot-found : (ps : List Placed) → Every (Grounded l ws ts) ps → Found l ws ts k (lastIn l k ps)
+  unfolding lastIn
+  slot-found [] e = nothing
+  slot-found (p ∷ ps) (also g gs) = found-or (lastIn l k ps) _ (slot-found ps gs) (found-if p g)
 
-settled-table : (o : Option Table) → mapped settledTable o ≡ settledOption o
-settled-table none = refl
-settled-table (some t) = refl
+-- what the words of a slot hold of its variable, and of its function
+module _ (l : Lent) (ws ts last : List ℕ) (k : ℕ) where
+  pub record VariableNoted (v : Value) : Type 0 where
+    pub low : k < count (l .variables)
+    pub some-node : 0 < wordAt last k nodeWord
+    pub stands : ValueStands l ws ts v (wordAt last k valueWord)
+    pub long : wordAt last k needWord ≡ valueSize v
+    pub small : valueSize v < 2 ^ 42
 
-pub settled-last-variable : (i : ℕ) (ds : List Definition) → lastVariable i (map settled ds) ≡ settledValue (lastVariable i ds)
-settled-last-variable i ds = settled-variable i ds ∙ settled-value (lastVariable i ds)
+  pub record FunctionNoted (i : ℕ) (t : Table) : Type 0 where
+    pub high : k ≡ count (l .variables) + i
+    pub low : i < count (l .functions)
+    pub some-node : 0 < wordAt last k nodeWord
+    pub stands : TableStands l ws ts i t (wordAt last k nodeWord)
+    pub long : wordAt last k needWord ≡ tableSize t
+    pub small : tableSize t < 2 ^ 42
 
-pub settled-last-function : (i : ℕ) (ds : List Definition) → lastFunction i (map settled ds) ≡ settledOption (lastFunction i ds)
-settled-last-function i ds = settled-function i ds ∙ settled-table (lastFunction i ds)
+  pub data Slot : Option Placed → Type 0 where
+    empty : wordAt last k nodeWord ≡ 0 → Slot none
+    variable : {p : Placed} (v : Value) → p .it ≡ isVariable k v → VariableNoted v → Slot (some p)
+    function : {p : Placed} (i : ℕ) (t : Table) → p .it ≡ isFunction i t → FunctionNoted i t → Slot (some p)
 
-module _ (l : Lent) (ws ts : List ℕ) where
-  as-variable : (i : ℕ) (o : Option Value) (node long : ℕ) → Holds l ws ts (mapped (isVariable i) o) node long → HoldsVariable l ws ts i o node long
-  as-variable i none node long h = h
-  as-variable i (some v) node long h = h
+  whole : (n m : ℕ) → n ≡ min m 18446744073709551615 → m < 2 ^ 42 → n ≡ m
+  whole n m e h = omega arith
 
-  as-function : (i : ℕ) (o : Option Table) (node long : ℕ) → Holds l ws ts (mapped (isFunction i) o) node long → HoldsFunction l ws ts i o node long
-  as-function i none node long h = h
-  as-function i (some t) node long h = h
+  slot-as : (o : Option Placed) → Found l ws ts k o → Holds o (wordAt last k nodeWord) (wordAt last k valueWord) (wordAt last k needWord) → Slot o
+  slot-as _ nothing h = empty (h .0)
+  slot-as _ (a-variable {p} v e low g) h =
+      let small : valueSize v < 2 ^ 42 = subst (λ (d : Definition). size d < 2 ^ 42) e (g .small) in
+      let stands : ValueStands l ws ts v (p .value) = subst (λ (d : Definition). Stands l ws ts d (p .node) (p .value)) e (g .stands) in
+      variable v e
+      (record {
+        low = low;
+        some-node = omega (arith, h .node-is, g .no-root);
+        stands = subst (ValueStands l ws ts v) (sym (h .value-is)) stands;
+        long = whole (wordAt last k needWord) (valueSize v) (h .long-is ∙ ap (λ (d : Definition). capped (size d)) e) small;
+        small = small;
+      })
+  slot-as _ (a-function {p} i t e high low g) h =
+      let small : tableSize t < 2 ^ 42 = subst (λ (d : Definition). size d < 2 ^ 42) e (g .small) in
+      let stands : TableStands l ws ts i t (p .node) = subst (λ (d : Definition). Stands l ws ts d (p .node) (p .value)) e (g .stands) in
+      function i t e
+      (record {
+        high = high;
+        low = low;
+        some-node = omega (arith, h .node-is, g .no-root);
+        stands = subst (TableStands l ws ts i t) (sym (h .node-is)) stands;
+        long = whole (wordAt last k needWord) (tableSize t) (h .long-is ∙ ap (λ (d : Definition). capped (size d)) e) small;
+        small = small;
+      })
 
-  module _ (ds : List Definition) (last : List ℕ) (k : Kept l ws ts ds last) (i : ℕ) (h : i < 1024) where
-    pub held-variable : HoldsVariable l ws ts i (lastVariable i ds) (getD last (i * 2 * 2) 0) (getD last (i * 2 * 2 + 1) 0)
-    held-variable =
-        as-variable i (lastVariable i ds) (getD last (i * 2 * 2) 0) (getD last (i * 2 * 2 + 1) 0)
-        (subst (λ (o : Option Definition). Holds l ws ts o (getD last (i * 2 * 2) 0) (getD last (i * 2 * 2 + 1) 0)) (last-variable i ds) (k .holds (i * 2) (omega arith)))
+  pub slot-known : (ps : List Placed) → Known l ws ts last ps → k < slots → Slot (lastIn l k ps)
+  slot-known ps known low = slot-as (lastIn l k ps) (slot-found l ws ts k ps (known .grounded)) (known .kept .holds k low)
 
-    pub held-function : HoldsFunction l ws ts i (lastFunction i ds) (getD last ((i * 2 + 1) * 2) 0) (getD last ((i * 2 + 1) * 2 + 1) 0)
-    held-function =
-        as-function i (lastFunction i ds) (getD last ((i * 2 + 1) * 2) 0) (getD last ((i * 2 + 1) * 2 + 1) 0)
-        (subst (λ (o : Option Definition). Holds l ws ts o (getD last ((i * 2 + 1) * 2) 0) (getD last ((i * 2 + 1) * 2 + 1) 0)) (last-function i ds) (k .holds (i * 2 + 1) (omega arith)))
+-- the slots' last definitions are those of the rows
+module _ (l : Lent) where
+  abbrev pub itIn : Option Placed → Option Definition
+  itIn o = mapped (λ p. p .it) o
+
+  it-if : (k : ℕ) (p : Placed) → itIn (cond (eqb k (slot l (p .it))) (some p) none) ≡ cond (eqb k (slot l (p .it))) (some (p .it)) none
+  it-if k p = by-test (eqb k (slot l (p .it))) (λ h. rw h refl) (λ h. rw h refl)
+
+  variable-if : (k : ℕ) → k < count (l .variables) → (d : Definition) → cond (eqb k (slot l d)) (some d) none ≡ mapped (isVariable k) (variableIn k d)
+  variable-if k h (isVariable j v) =
+      by-test (eqb k j) (λ t. let e : k ≡ j = eqb-true k j t in rw (t, e) refl) (λ t. rw t refl)
+  variable-if k h (isFunction j t) = rw (ne-eqb k (count (l .variables) + j) (λ z. omega arith)) refl
+
+  function-if : (i : ℕ) (d : Definition) → Within (tablesOf l) d → cond (eqb (count (l .variables) + i) (slot l d)) (some d) none ≡ mapped (isFunction i) (functionIn i d)
+  function-if i (isVariable j v) w = rw (ne-eqb (count (l .variables) + i) j (λ z. omega (arith, z, w, variable-count l))) refl
+  function-if i (isFunction j t) w =
+      let n = count (l .variables) in
+      by-test (eqb i j)
+      (λ h. let e : i ≡ j = eqb-true i j h in rw (h, eq-eqb (n + i) (n + j) (omega arith), e) refl)
+      (λ h. let e = eqb-false i j h in rw (h, ne-eqb (n + i) (n + j) (λ z. e (omega arith))) refl)
+
+  pub last-variable : (k : ℕ) → k < count (l .variables) → (ps : List Placed) → itIn (lastIn l k ps) ≡ mapped (isVariable k) (lastVariable k (its ps))
+  unfolding lastIn lastVariable
+  last-variable k h [] = refl
+  last-variable k h (p ∷ ps) =
+      sym (mapped-or (λ q. q .it) (lastIn l k ps) (cond (eqb k (slot l (p .it))) (some p) none))
+      ∙ ap₂ (λ (a b : Option Definition). orElse a b) (last-variable k h ps) (it-if k p ∙ variable-if k h (p .it))
+      ∙ mapped-or (isVariable k) (lastVariable k (its ps)) (variableIn k (p .it))
+
+  pub last-function : (ws ts : List ℕ) (i : ℕ) (ps : List Placed) → Every (Grounded l ws ts) ps → itIn (lastIn l (count (l .variables) + i) ps) ≡ mapped (isFunction i) (lastFunction i (its ps))
+  unfolding lastIn lastFunction
+  last-function ws ts i [] e = refl
+  last-function ws ts i (p ∷ ps) (also g gs) =
+      let k = count (l .variables) + i in
+      sym (mapped-or (λ q. q .it) (lastIn l k ps) (cond (eqb k (slot l (p .it))) (some p) none))
+      ∙ ap₂ (λ (a b : Option Definition). orElse a b) (last-function ws ts i ps gs) (it-if k p ∙ function-if i (p .it) (g .within))
+      ∙ mapped-or (isFunction i) (lastFunction i (its ps)) (functionIn i (p .it))

@@ -1,10 +1,12 @@
+pub mod Folds
 pub mod Lasts
 pub mod Rows
-pub mod Tallies
 pub mod Sizes
+pub mod Tallies
 pub mod Readings
 pub mod Pieces
 pub mod Wholes
 pub mod Needs
 pub mod One
 pub mod Demand
+pub mod Unread

@@ -1,10 +1,10 @@
 -- A refusal of the walk tells no need, and the need of a listing is below 2 ^ 56: so one word can tell a refusal's number and its detail.
 -- Assumes nothing.
 use mathlib.Core.Path.{_≡_, refl, sym, ap, _∙_, subst}
-use mathlib.Core.Bool.{Bool, true, false, cond}
-use mathlib.Core.List.{List, [], _∷_, _++_}
+use mathlib.Core.Bool.{true}
+use mathlib.Core.List.{List}
 use mathlib.Core.Option.{Option, none, some}
-use Prim.Native.Nat.{ℕ, zero, suc, _+_, _*_, _^_, _≤_, _<_}
+use Prim.Native.Nat.{ℕ, _*_, _^_, _≤_, _<_}
 use native.Mathlib.Omega.{arith}
 use lib.Dec.{eqb}
 use lib.ListN.{length, length-append}
@@ -16,30 +16,36 @@ use Rattle.refusals.specs.Number.{detailOf}
 use Rattle.lent.specs.declared.Written.{Written}
 use Rattle.lent.specs.declared.Written.the-variants.{Length, Refused}
 use Rattle.lent.specs.Left.{Left, Leaves}
-use Rattle.arena.specs.Tree.{Tree, Trees, bitVec, numeral, string, symbol, app, nil, cons, nodes, nodesOf, text as treeText, texts as treeTexts, mostNodes, mostText}
-use Rattle.order.specs.Every.{Every, none as no-more, also}
-use Rattle.order.proofs.Everies.{every-append}
+use Rattle.arena.specs.Arena.{Arena}
+use Rattle.arena.specs.Tree.{Tree, Trees, bitVec, numeral, string, symbol, app, nil, cons, count as many-of, nodes, text as treeText}
+use Rattle.arena.proofs.Arenas.{arena-stands}
+use Rattle.order.specs.Every.{Every}
 use Rattle.tables.specs.Find.{variableRow as variableFound, functionRow as functionFound}
-use Rattle.tables.specs.Layout.{Lent, count, variableAt, functionAt, tablesOf}
+use Rattle.tables.specs.Layout.{Lent, tablesOf}
+use Rattle.tables.specs.Check.{passes}
 use Rattle.tables.specs.Rules.{lawful}
 use Rattle.tables.specs.Sort.{Variable, Function, Tables}
-use Rattle.sorts.specs.Result.{Result, ok, refused, found}
+use Rattle.shapes.specs.Shows.{StandingAll}
+use Rattle.sorts.specs.Result.{Result, ok, refused, _>>=_, found}
 use Rattle.sorts.specs.Sort.{readSort, levels}
-use Rattle.values.specs.Value.{Value}
 use Rattle.literals.specs.Literal.{read}
 use Rattle.well_sorted.proofs.Plain.{Plain, plain-then, plain-unless, plain-found, sort-plain, read-plain}
-use Rattle.well_sorted.proofs.Results.{refuses, ok-same, went}
+use Rattle.well_sorted.proofs.Results.{refuses, ok-same}
 use Rattle.commands.specs.Command.{Command, variable, function, misshapen, command, Chain, default, arm, chain, tests, key}
-use Rattle.model.specs.Model.{Table, Definition, isVariable, isFunction, orElse, isBool, variableIn, functionIn, lastVariable, lastFunction, readChain, readTests, bodyBy, variableValue, functionTable, onRow, readCommand, readCommands, readModel}
-use Rattle.model.specs.Listing.{variableLines, functionLines, variablesFrom, functionsFrom, variableCount, functionCount, listing, need}
-use Rattle.definitions.specs.Measure.{valueSize, tableSize}
-use Rattle.walk.specs.Noted.{size}
-use Rattle.walk.proofs.Sizes.{tree-given}
+use Rattle.model.specs.Model.{Definition, isBool, readChain, readTests, bodyBy, variableValue, functionTable, onRow, readCommand, readCommands, readModel}
+use Rattle.model.specs.Listing.{variableCount, functionCount, listing, need}
+use Rattle.walk.specs.Placed.{Placed, its, placed}
+use Rattle.walk.proofs.Places.{placed-read}
 use Rattle.listing.specs.Lists.{left, Lists, bad-table, bad-arena, walked}
-use Rattle.listing.specs.Lines.{header}
-use Rattle.listing.proofs.Rows.{sums, length-texts, variableRow, functionRow, variables-are, functions-are, few-variables, few-functions}
-use Rattle.listing.proofs.Sizes.{header-small, length-variable, length-function, variable-most, function-most}
-use Rattle.listing.proofs.Wholes.{parts, fits, short, passes-rules}
+use Rattle.listing.specs.Line.{header}
+use Rattle.listing.specs.Grounds.{Grounded}
+use Rattle.listing.specs.Entries.{entries}
+use Rattle.listing.proofs.Folds.{sums-most, length-texts}
+use Rattle.listing.proofs.Readings.{commands-grounded}
+use Rattle.listing.proofs.Rows.{many, many-few, entryOf, entries-are}
+use Rattle.listing.proofs.Sizes.{header-small}
+use Rattle.listing.proofs.Tallies.{most, entry-short}
+use Rattle.listing.proofs.Wholes.{parts, fits, short, passes-rules, sure-of}
 
 -- a refusal of the walk
 module _ (T : Tables) where
@@ -107,104 +113,37 @@ module _ (T : Tables) where
   model-plain (symbol s) = refl
   model-plain (app us) = commands-plain us
 
--- each definition is short
-abbrev Small : Definition → Type 0
-Small d = size d < 2 ^ 42
+-- the need of what stands in an arena
+need-small : (l : Lent) (ws ts : List ℕ) → lawful (tablesOf l) ≡ true → (ps : List Placed) → Every (Grounded l ws ts) ps → need (tablesOf l) (its ps) < 2 ^ 56
+unfolding need
+need-small l ws ts rules ps gs =
+    let v = variableCount (its ps) 0 (tablesOf l .variables) in
+    let f = functionCount (its ps) 0 (tablesOf l .functions) in
+    let e = ap length (parts l (its ps) v f refl refl) in
+    let g = ap length (entries-are l ws ts ps gs) in
+    let k = sums-most (λ j. length (entryOf l ps j)) most 0 (many l) (λ j. entry-short l ws ts j rules ps gs) in
+    let m = mul-mono (many l) (many-few l rules) in
+    omega (arith, e, g, k, m, length-append (header v f) (entries l (its ps)), length-texts (entryOf l ps) 0 (many l), header-small v f)
+  where
+    mul-mono : (n : ℕ) → n ≤ 2048 → n * most ≤ 18014398509481984
+    mul-mono n h = omega arith
 
-module _ (T : Tables) (rules : lawful T ≡ true) where
-  command-small : (t : Tree) (ds : List Definition) → readCommand T (command t) ≡ ok ds → nodes t ≤ mostNodes → length (treeText t) ≤ mostText → Every Small ds
-  command-small t [] e f s = no-more
-  command-small t (d ∷ ds) e f s =
-      let g = tree-given T rules t d ds e in
-      let k : size d < 2 ^ 42 = omega (arith, g .short, f, s) in
-      also k (subst (Every Small) (sym (g .alone)) no-more)
+model-small : (l : Lent) (ws ts : List ℕ) → passes l ≡ true → (t : Tree) (ds : List Definition) → Arena ws ts t → readModel (tablesOf l) t ≡ ok ds → need (tablesOf l) ds < 2 ^ 56
+unfolding readModel _>>=_
+model-small l ws ts p (bitVec w n) ds a e = refuses e
+model-small l ws ts p (numeral n) ds a e = refuses e
+model-small l ws ts p (string r) ds a e = refuses e
+model-small l ws ts p (symbol r) ds a e = refuses e
+model-small l ws ts p (app us) ds a e = go (placed (tablesOf l) 1 us) refl
+  where
+    all : StandingAll us ws ts 1 (many-of us)
+    all = let s = arena-stands ws ts (app us) a in record { next = nodes (app us); from = 0; rest = length (treeText (app us)); there = s .children; many-are = refl }
 
-  commands-small : (us : Trees) (ds : List Definition) → readCommands T us ≡ ok ds → nodesOf us ≤ mostNodes → length (treeTexts us) ≤ mostText → Every Small ds
-  unfolding readCommands
-  commands-small nil ds e f s = subst (Every Small) (ok-same e) no-more
-  commands-small (cons t us) ds e f s =
-      let a = went (readCommand T (command t)) _ ds e in
-      let b = went (readCommands T us) _ ds (a .next) in
-      let k = length-append (treeText t) (treeTexts us) in
-      subst (Every Small) (ok-same (b .next))
-      (every-append Small (a .got) (b .got) (command-small t (a .got) (a .first) (omega arith) (omega arith)) (commands-small us (b .got) (b .first) (omega arith) (omega arith)))
-
-  model-small : (t : Tree) (ds : List Definition) → readModel T t ≡ ok ds → nodes t ≤ mostNodes → length (treeText t) ≤ mostText → Every Small ds
-  unfolding readModel
-  model-small (bitVec w n) ds e f s = refuses e
-  model-small (numeral n) ds e f s = refuses e
-  model-small (string r) ds e f s = refuses e
-  model-small (symbol r) ds e f s = refuses e
-  model-small (app us) ds e f s = commands-small us ds e (omega arith) s
-
--- and so is the last one of a row
-abbrev SmallIn : {A : Type 0} → (A → ℕ) → Option A → Type 0
-SmallIn long none = Unit {0}
-SmallIn long (some a) = long a < 2 ^ 42
-
-small-or : {A : Type 0} (long : A → ℕ) (a b : Option A) → SmallIn long a → SmallIn long b → SmallIn long (orElse a b)
-small-or long none b p q = q
-small-or long (some a) b p q = p
-
-small-if : {A : Type 0} (long : A → ℕ) (test : Bool) (a : A) → long a < 2 ^ 42 → SmallIn long (cond test (some a) none)
-small-if long true a p = p
-small-if long false a p = tt
-
-module _ (i : ℕ) where
-  in-variable : (d : Definition) → Small d → SmallIn valueSize (variableIn i d)
-  in-variable (isVariable j v) p = small-if valueSize (eqb i j) v p
-  in-variable (isFunction j t) p = tt
-
-  in-function : (d : Definition) → Small d → SmallIn tableSize (functionIn i d)
-  in-function (isVariable j v) p = tt
-  in-function (isFunction j t) p = small-if tableSize (eqb i j) t p
-
-  last-value : (ds : List Definition) → Every Small ds → SmallIn valueSize (lastVariable i ds)
-  unfolding lastVariable
-  last-value [] p = tt
-  last-value (d ∷ ds) (also p ps) = small-or valueSize (lastVariable i ds) (variableIn i d) (last-value ds ps) (in-variable d p)
-
-  last-table : (ds : List Definition) → Every Small ds → SmallIn tableSize (lastFunction i ds)
-  unfolding lastFunction
-  last-table [] p = tt
-  last-table (d ∷ ds) (also p ps) = small-or tableSize (lastFunction i ds) (functionIn i d) (last-table ds ps) (in-function d p)
-
--- rows of at most 2 ^ 43 bytes each
-sums-most : (g : ℕ → ℕ) (n : ℕ) → ((j : ℕ) → j < n → g j ≤ 8796093022208) → (i m : ℕ) → i + m ≤ n → sums g i m ≤ m * 8796093022208
-unfolding sums
-sums-most g n h i zero k = omega arith
-sums-most g n h i (suc m) k = omega (arith, h i (omega arith), sums-most g n h (suc i) m (omega arith))
-
-module _ (l : Lent) (rules : lawful (tablesOf l) ≡ true) (ds : List Definition) (small : Every Small ds) where
-  variable-long : (i : ℕ) → i < count (l .variables) → (o : Option Value) → SmallIn valueSize o → length (variableLines (variableAt l i) o) ≤ 8796093022208
-  variable-long i h none p = omega arith
-  variable-long i h (some v) p = omega (arith, length-variable l i v, variable-most l i rules (valueSize v) h, p)
-
-  function-long : (i : ℕ) → i < count (l .functions) → (o : Option Table) → SmallIn tableSize o → length (functionLines (functionAt l i) o) ≤ 8796093022208
-  function-long i h none p = omega arith
-  function-long i h (some t) p = omega (arith, length-function l i t, function-most l i rules (tableSize t) h, p)
-
-  variables-long : length (variablesFrom ds 0 (tablesOf l .variables)) ≤ 1024 * 8796093022208
-  variables-long =
-      let e = ap (λ (s : List ℕ). length s) (variables-are l ds) ∙ length-texts (variableRow l ds) 0 (count (l .variables)) in
-      let k = sums-most (λ j. length (variableRow l ds j)) (count (l .variables)) (λ j h. variable-long j h (lastVariable j ds) (last-value j ds small)) 0 (count (l .variables)) (omega arith) in
-      omega (arith, e, k, few-variables l rules)
-
-  functions-long : length (functionsFrom ds 0 (tablesOf l .functions)) ≤ 1024 * 8796093022208
-  functions-long =
-      let e = ap (λ (s : List ℕ). length s) (functions-are l ds) ∙ length-texts (functionRow l ds) 0 (count (l .functions)) in
-      let k = sums-most (λ j. length (functionRow l ds j)) (count (l .functions)) (λ j h. function-long j h (lastFunction j ds) (last-table j ds small)) 0 (count (l .functions)) (omega arith) in
-      omega (arith, e, k, few-functions l rules)
-
-  need-small : need (tablesOf l) ds < 2 ^ 56
-  unfolding need
-  need-small =
-      let v = variableCount ds 0 (tablesOf l .variables) in
-      let f = functionCount ds 0 (tablesOf l .functions) in
-      let x = variablesFrom ds 0 (tablesOf l .variables) in
-      let y = functionsFrom ds 0 (tablesOf l .functions) in
-      let e = ap (λ (s : List ℕ). length s) (parts l ds v f refl refl) in
-      omega (arith, e, length-append (header v f) (x ++ y), length-append x y, header-small v f, variables-long, functions-long)
+    go : (m : Result (List Placed)) → placed (tablesOf l) 1 us ≡ m → need (tablesOf l) ds < 2 ^ 56
+    go (ok ps) z =
+        let k : ok (its ps) ≡ ok ds = sym (ap (λ (x : Result (List Placed)). x >>= λ qs. ok (its qs)) z) ∙ placed-read (tablesOf l) 1 us ∙ e in
+        subst (λ (es : List Definition). need (tablesOf l) es < 2 ^ 56) (ok-same k) (need-small l ws ts (passes-rules l p) ps (commands-grounded l ws ts us (many-of us) all (sure-of l ws ts us p a) ps z))
+    go (refused r) z = let k : refused r ≡ ok ds = sym (ap (λ (x : Result (List Placed)). x >>= λ qs. ok (its qs)) z) ∙ placed-read (tablesOf l) 1 us ∙ e in refuses k
 
 -- what is told
 told-so : {why : Refusal} {s : Written} → Refused why ≡ s → (P : Written → Type 0) → P s → P (Refused why)
@@ -221,8 +160,7 @@ listing-told l ws ts entry why exit (walked p t a h) = go (readModel (tablesOf l
   where
     go : (m : Result (List Definition)) → readModel (tablesOf l) t ≡ m → Leaves (left (tablesOf l) m entry) (Refused why) exit → detailOf why < 2 ^ 56
     go (ok ds) e k =
-        let rules = passes-rules l p in
-        let small = need-small l rules ds (model-small (tablesOf l) rules t ds e (a .few) (a .short)) in
+        let small = model-small l ws ts p t ds a e in
         told-so (k .answers) Told
         (by-order (length entry) (need (tablesOf l) ds)
         (λ h. subst (λ (x : Left). Told (x .answer)) (sym (short (listing (tablesOf l) ds) (need (tablesOf l) ds) entry h)) small)

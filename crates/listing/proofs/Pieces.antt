@@ -1,30 +1,37 @@
--- The lines of a row, one piece after the other, and the rows of a table, one after the other.
+-- The lines of a row, one piece after the other, and the slots' lines, one after the other.
 -- Assumes nothing.
 use mathlib.Core.Path.{_≡_, refl, sym, _∙_, subst}
 use mathlib.Core.Bool.{true}
-use mathlib.Core.List.{List, map}
-use Prim.Native.Nat.{ℕ, _+_, _*_, _-_, _≤_, _<_}
+use mathlib.Core.List.{List}
+use mathlib.Core.Option.{Option, some}
+use Prim.Native.Nat.{ℕ, _+_, _-_, _≤_, _<_}
 use native.Mathlib.Omega.{arith}
-use lib.ListN.{length, getD, take, drop}
+use lib.ListN.{length, take, drop}
 use Rattle.ground.specs.Bytes.{bytes}
 use Rattle.lent.specs.Put.{Offers}
 use Rattle.decimals.specs.Decimal.{decimal}
 use Rattle.tables.specs.declared.row.Range.{Range}
-use Rattle.tables.specs.Layout.{Lent, count, word, nameAt, tablesOf}
+use Rattle.tables.specs.Layout.{Lent, count, word, nameAt, variableAt, tablesOf}
 use Rattle.tables.specs.Range.{Clamps}
 use Rattle.tables.specs.Rules.{lawful}
 use Rattle.tables.proofs.Ranges.{clamps-name}
 use Rattle.sorts.specs.Sort.{levels}
+use Rattle.values.specs.Normal.{normal}
+use Rattle.values.specs.Value.{Value}
 use Rattle.value_text.specs.Laid.{Lays}
 use Rattle.value_text.specs.Value.{WritesInside}
-use Rattle.value_text.proofs.Lays.{lays-then, lays-put}
-use Rattle.model.specs.Model.{Definition, lastVariable, lastFunction}
-use Rattle.model.specs.Listing.{settled, variablesFrom, functionsFrom}
+use Rattle.value_text.proofs.Lays.{lays-then, lays-put, lays-none, lays-as}
+use Rattle.model.specs.Model.{Definition}
+use Rattle.model.specs.Listing.{settled, variableLines}
 use Rattle.arms.specs.Table.{WritesTable}
-use Rattle.walk.specs.Last.{Kept}
-use Rattle.listing.specs.Lines.{lineOf, HoldsVariable, HoldsFunction, OfVariables, OfFunctions, LaysValue, LaysLastVariable, LaysVariables, LaysBody, LaysLastFunction, LaysFunctions, WritesLastVariable, WritesLastFunction, WritesVariables, WritesFunctions}
-use Rattle.listing.proofs.Lasts.{held-variable, held-function}
-use Rattle.listing.proofs.Rows.{texts, variableRow, settledVariableRow, functionRow, settledFunctionRow, variables-are, variables-settled, functions-are, functions-settled, few-variables, few-functions, Onwards, onwards-start, onwards-step, onwards-end}
+use Rattle.walk.specs.Last.{nodeWord, valueWord, wordAt}
+use Rattle.walk.specs.Placed.{Placed}
+use Rattle.listing.specs.Line.{lineOf}
+use Rattle.listing.specs.Grounds.{Known}
+use Rattle.listing.specs.Entries.{entry, entryIn, settledIn, LaysVariable, LaysBody, LaysFunction, LaysEntry, LaysEntries, OfBoth, WritesVariable, WritesFunction, WritesEntry, WritesEntries}
+use Rattle.listing.proofs.Lasts.{Slot, empty, variable, function, slot-known}
+use Rattle.listing.proofs.Rows.{many, many-few, entryOf, settledOf, entries-are, entries-settled, Onwards, onwards-start, onwards-step, onwards-end}
+use Rattle.listing.proofs.Folds.{texts}
 
 -- the line of a row's name, and of a word of it
 module _ (names rows : List ℕ) (row first size : ℕ) (range : Range) (e : first ≡ word rows row 0) (g : size ≡ word rows row 1) (h : Clamps first size (length names) range) where
@@ -37,16 +44,17 @@ module _ (names rows : List ℕ) (row first size : ℕ) (range : Range) (e : fir
 
 module _ (l : Lent) (ws ts : List ℕ) (row first size : ℕ) (range : Range) where
   module _ (e : first ≡ word (l .variables) row 0) (g : size ≡ word (l .variables) row 1) (h : Clamps first size (length (l .names)) range) where
-    pub value-laid : (value w : ℕ) (a b c d f k : List ℕ) (place one two three four r : ℕ) → w ≡ word (l .variables) row 2 →
+    pub variable-laid : (value w : ℕ) (a b c d f k : List ℕ) (place one two three four r : ℕ) → w ≡ word (l .variables) row 2 →
         Offers a b place (lineOf (bytes "var=") (take (range .end - range .start) (drop (range .start) (l .names)))) one →
         Offers b c one (lineOf (bytes "sort=") (decimal w)) two → Offers c d two (bytes "value=") three →
         WritesInside (l .sorts) (l .members) (l .names) ws ts value levels d f three four → Offers f k four (bytes "\n") r →
-        LaysValue l ws ts row value a k place r
-    value-laid value w a b c d f k place one two three four r q p1 p2 p3 p4 p5 t s expected lit m at fits =
-        lays-then (name-line (l .names) (l .variables) row first size range e g h (bytes "var=") p1)
+        LaysVariable l ws ts row value a k place r
+    variable-laid value w a b c d f k place one two three four r q p1 p2 p3 p4 p5 v s =
+        subst (λ (x : Value). Lays (variableLines (variableAt l row) (some x)) (variableLines (variableAt l row) (some (normal x))) a k place r) (s .same)
+        (lays-then (name-line (l .names) (l .variables) row first size range e g h (bytes "var=") p1)
         (lays-then (word-line (l .names) (l .variables) row first size range e g h (bytes "sort=") 2 w q p2)
         (lays-then (lays-put p3)
-        (lays-then (p4 l (record { sorts-are = refl; members-are = refl; names-are = refl }) t s expected lit m at fits) (lays-put p5))))
+        (lays-then (p4 l (record { sorts-are = refl; members-are = refl; names-are = refl }) (s .tree) (s .there) (s .expected) (s .lit) (s .reads) (s .lit .row) (s .fits)) (lays-put p5)))))
 
   module _ (e : first ≡ word (l .functions) row 0) (g : size ≡ word (l .functions) row 1) (h : Clamps first size (length (l .names)) range) where
     pub body-laid : (offset long body w v : ℕ) (a b c d f : List ℕ) (place one two three r : ℕ) → w ≡ word (l .functions) row 2 → v ≡ word (l .functions) row 3 →
@@ -60,106 +68,81 @@ module _ (l : Lent) (ws ts : List ℕ) (row first size : ℕ) (range : Range) wh
         (lays-then (word-line (l .names) (l .functions) row first size range e g h (bytes "out=") 3 v q′ p3)
         (p4 l (record { sorts-are = refl; members-are = refl; names-are = refl }) x t argument result table reads s m fits)))
 
--- what the loops keep: the rows from one on, once they are laid, make the whole
-abbrev LayingVariables : Lent → List ℕ → List ℕ → List ℕ → List ℕ → ℕ → List ℕ → ℕ → ℕ → ℕ → Type 0
-LayingVariables l ws ts last entry place d to n i =
-    (ds : List Definition) → lawful (tablesOf l) ≡ true → Kept l ws ts ds last → Onwards (variableRow l ds) (settledVariableRow l ds) n entry place d to i
+-- a slot's lines, by what its words hold
+module _ (l : Lent) (ws ts last : List ℕ) (k : ℕ) (node : ℕ) (q : node ≡ wordAt last k nodeWord) where
+  abbrev LaidIn : Option Placed → List ℕ → List ℕ → ℕ → ℕ → Type 0
+  LaidIn o a b place r = Lays (entryIn l o) (settledIn l o) a b place r
 
-abbrev LayingFunctions : Lent → List ℕ → List ℕ → List ℕ → List ℕ → ℕ → List ℕ → ℕ → ℕ → ℕ → Type 0
-LayingFunctions l ws ts last entry place d to n i =
-    (ds : List Definition) → lawful (tablesOf l) ≡ true → Kept l ws ts ds last → Onwards (functionRow l ds) (settledFunctionRow l ds) n entry place d to i
+  abbrev LaidAs : Definition → List ℕ → List ℕ → ℕ → ℕ → Type 0
+  LaidAs d a b place r = Lays (entry l d) (entry l (settled d)) a b place r
 
-pub record VariablesLaying (sorts variables members names ws ts last scratch entry : List ℕ) (place : ℕ) (scratch′ d : List ℕ) (to n i : ℕ) : Type 0 where
-  pub there : n ≡ count variables
-  pub long : length d ≡ length entry
+  none-in : (a : List ℕ) (place : ℕ) → node ≡ 0 → (o : Option Placed) → Slot l ws ts last k o → LaidIn o a a place place
+  none-in a place e _ (empty z) = lays-none a place
+  none-in a place e _ (variable v z n) = absurd (omega (arith, q, e, n .some-node))
+  none-in a place e _ (function i t z n) = absurd (omega (arith, q, e, n .some-node))
+
+  module _ (there : node ≡ 0 → ⊥) (a b : List ℕ) (place r : ℕ) where
+    variable-in : k < count (l .variables) → (value : ℕ) → value ≡ wordAt last k valueWord → LaysVariable l ws ts k value a b place r → (o : Option Placed) → Slot l ws ts last k o → LaidIn o a b place r
+    variable-in h value e f _ (empty z) = absurd (there (q ∙ z))
+    variable-in h value e f _ (variable v z n) =
+        subst (λ (d : Definition). LaidAs d a b place r) (sym z) (subst (λ (j : ℕ). LaysVariable l ws ts k j a b place r) e f v (n .stands))
+    variable-in h value e f _ (function i t z n) = absurd (omega (arith, h, n .high))
+
+    function-in : count (l .variables) ≤ k → (row : ℕ) → row ≡ k - count (l .variables) → lawful (tablesOf l) ≡ true → LaysFunction l ws ts row node a b place r → (o : Option Placed) → Slot l ws ts last k o → LaidIn o a b place r
+    function-in h row e rules f _ (empty z) = absurd (there (q ∙ z))
+    function-in h row e rules f _ (variable v z n) = absurd (omega (arith, h, n .low))
+    function-in h row e rules f _ (function i t z n) =
+        let m : row ≡ i = omega (arith, e, n .high) in
+        let g = subst (λ (j : ℕ). LaysFunction l ws ts j node a b place r) m f in
+        subst (λ (d : Definition). LaidAs d a b place r) (sym z) (subst (λ (j : ℕ). LaysFunction l ws ts i j a b place r) q g t rules (n .stands))
+
+module _ (sorts variables functions members names ws ts last : List ℕ) (k node : ℕ) (q : node ≡ wordAt last k nodeWord) where
+  pub entry-none : (a : List ℕ) (place : ℕ) → node ≡ 0 → WritesEntry sorts variables functions members names ws ts last k a a place place
+  entry-none a place e fields ps known low = none-in _ ws ts last k node q a place e _ (slot-known _ ws ts last k ps known low)
+
+  module _ (there : node ≡ 0 → ⊥) (rows : ℕ) (h : rows ≡ count variables) (a b : List ℕ) (place r : ℕ) where
+    pub entry-variable : k < rows → (value : ℕ) → value ≡ wordAt last k valueWord → WritesVariable sorts variables members names ws ts k value a b place r →
+        WritesEntry sorts variables functions members names ws ts last k a b place r
+    entry-variable g value e f fields ps known low =
+        variable-in _ ws ts last k node q there a b place r (omega arith) value e (f fields functions) _ (slot-known _ ws ts last k ps known low)
+
+    pub entry-function : rows ≤ k → (row : ℕ) → row ≡ k - rows → WritesFunction sorts functions members names ws ts row node a b place r →
+        WritesEntry sorts variables functions members names ws ts last k a b place r
+    entry-function g row e f fields ps known low =
+        function-in _ ws ts last k node q there a b place r (omega arith) row (omega arith) (known .rules) (f fields variables) _ (slot-known _ ws ts last k ps known low)
+
+-- what the loop keeps: the slots from one on, once they are laid, make the whole
+abbrev LayingOf : Lent → List ℕ → List ℕ → List ℕ → List ℕ → ℕ → List ℕ → ℕ → ℕ → ℕ → Type 0
+LayingOf l ws ts last before place d to n i =
+    (ps : List Placed) → Known l ws ts last ps → Onwards (entryOf l ps) (settledOf l ps) n before place d to i
+
+pub record Laying (sorts variables functions members names ws ts last scratch before : List ℕ) (place : ℕ) (scratch′ d : List ℕ) (to n i : ℕ) : Type 0 where
+  pub there : n ≡ count variables + count functions
+  pub long : length d ≡ length before
   pub still : length scratch′ ≡ length scratch
-  pub rest : OfVariables (λ l. LayingVariables l ws ts last entry place d to n i) sorts variables members names
+  pub rest : OfBoth (λ l. LayingOf l ws ts last before place d to n i) sorts variables functions members names
 
-pub record FunctionsLaying (sorts functions members names ws ts last scratch entry : List ℕ) (place : ℕ) (scratch′ d : List ℕ) (to n i : ℕ) : Type 0 where
-  pub there : n ≡ count functions
-  pub long : length d ≡ length entry
-  pub still : length scratch′ ≡ length scratch
-  pub rest : OfFunctions (λ l. LayingFunctions l ws ts last entry place d to n i) sorts functions members names
+module _ (l : Lent) (ws ts last before : List ℕ) (place : ℕ) (d : List ℕ) (to n i : ℕ) (there : n ≡ many l) (so : LayingOf l ws ts last before place d to n i) where
+  lay-one : (e : List ℕ) (next : ℕ) → i < n → LaysEntry l ws ts last i d e to next → LayingOf l ws ts last before place e next n (i + 1)
+  lay-one e next inside p ps known =
+      let h = many-few l (known .rules) in
+      onwards-step (entryOf l ps) (settledOf l ps) n before place d e to next i inside (so ps known) (p ps known (omega arith))
 
-module _ (l : Lent) (ws ts last entry : List ℕ) (place : ℕ) (d : List ℕ) (to n i : ℕ) where
-  lay-variable : n ≡ count (l .variables) → (e : List ℕ) (node next : ℕ) → i < n → node ≡ getD last (i * 2 * 2) 0 → LaysLastVariable l ws ts i node d e to next →
-      LayingVariables l ws ts last entry place d to n i → LayingVariables l ws ts last entry place e next n (i + 1)
-  lay-variable there e node next inside q p so ds rules kept =
-      let few = few-variables l rules in
-      let h = held-variable l ws ts ds last kept i (omega arith) in
-      let h′ = subst (λ (k : ℕ). HoldsVariable l ws ts i (lastVariable i ds) k (getD last (i * 2 * 2 + 1) 0)) (sym q) h in
-      onwards-step (variableRow l ds) (settledVariableRow l ds) n entry place d e to next i inside (so ds rules kept) (p (lastVariable i ds) (getD last (i * 2 * 2 + 1) 0) rules h′)
+  lay-all : n ≤ i → LaysEntries l ws ts last before d place to
+  lay-all past ps known =
+      let p = onwards-end (entryOf l ps) (settledOf l ps) n before place d to i past (so ps known) in
+      lays-as (entries-are l ws ts ps (known .grounded)) (entries-settled l ws ts ps (known .grounded))
+      (subst (λ (m : ℕ). Lays (texts (entryOf l ps) 0 m) (texts (settledOf l ps) 0 m) before d place to) there p)
 
-  all-variables : n ≡ count (l .variables) → n ≤ i → LayingVariables l ws ts last entry place d to n i → LaysVariables l ws ts last entry d place to
-  all-variables there past so ds rules kept =
-      let p = onwards-end (variableRow l ds) (settledVariableRow l ds) n entry place d to i past (so ds rules kept) in
-      let q = subst (λ (m : ℕ). Lays (texts (variableRow l ds) 0 m) (texts (settledVariableRow l ds) 0 m) entry d place to) there p in
-      subst (λ (s : List ℕ). Lays s (variablesFrom (map settled ds) 0 (tablesOf l .variables)) entry d place to) (sym (variables-are l ds))
-      (subst (λ (s : List ℕ). Lays (texts (variableRow l ds) 0 (count (l .variables))) s entry d place to) (sym (variables-settled l ds)) q)
+module _ (sorts variables functions members names ws ts last scratch before : List ℕ) (place n : ℕ) where
+  pub laying-start : n ≡ count variables + count functions → Laying sorts variables functions members names ws ts last scratch before place scratch before place n 0
+  laying-start e = record { there = e; long = refl; still = refl; rest = λ fields ps known. onwards-start _ _ n before place }
 
-  lay-function : n ≡ count (l .functions) → (e : List ℕ) (node next : ℕ) → i < n → node ≡ getD last ((i * 2 + 1) * 2) 0 → LaysLastFunction l ws ts i node d e to next →
-      LayingFunctions l ws ts last entry place d to n i → LayingFunctions l ws ts last entry place e next n (i + 1)
-  lay-function there e node next inside q p so ds rules kept =
-      let few = few-functions l rules in
-      let h = held-function l ws ts ds last kept i (omega arith) in
-      let h′ = subst (λ (k : ℕ). HoldsFunction l ws ts i (lastFunction i ds) k (getD last ((i * 2 + 1) * 2 + 1) 0)) (sym q) h in
-      onwards-step (functionRow l ds) (settledFunctionRow l ds) n entry place d e to next i inside (so ds rules kept) (p (lastFunction i ds) (getD last ((i * 2 + 1) * 2 + 1) 0) rules h′)
+  module _ (scratch′ d : List ℕ) (to i : ℕ) (so : Laying sorts variables functions members names ws ts last scratch before place scratch′ d to n i) where
+    pub laying-step : (scratch″ e : List ℕ) (next : ℕ) → i < n → length scratch″ ≡ length scratch′ → length e ≡ length d → WritesEntry sorts variables functions members names ws ts last i d e to next →
+        Laying sorts variables functions members names ws ts last scratch before place scratch″ e next n (i + 1)
+    laying-step scratch″ e next inside s t p =
+        record { there = so .there; long = t ∙ so .long; still = s ∙ so .still; rest = λ fields. lay-one _ ws ts last before place d to n i (so .there) (so .rest fields) e next inside (p fields) }
 
-  all-functions : n ≡ count (l .functions) → n ≤ i → LayingFunctions l ws ts last entry place d to n i → LaysFunctions l ws ts last entry d place to
-  all-functions there past so ds rules kept =
-      let p = onwards-end (functionRow l ds) (settledFunctionRow l ds) n entry place d to i past (so ds rules kept) in
-      let q = subst (λ (m : ℕ). Lays (texts (functionRow l ds) 0 m) (texts (settledFunctionRow l ds) 0 m) entry d place to) there p in
-      subst (λ (s : List ℕ). Lays s (functionsFrom (map settled ds) 0 (tablesOf l .functions)) entry d place to) (sym (functions-are l ds))
-      (subst (λ (s : List ℕ). Lays (texts (functionRow l ds) 0 (count (l .functions))) s entry d place to) (sym (functions-settled l ds)) q)
-
-module _ (sorts rows members names ws ts last scratch entry : List ℕ) (place n : ℕ) where
-  pub laying-variables : n ≡ count rows → VariablesLaying sorts rows members names ws ts last scratch entry place scratch entry place n 0
-  laying-variables e =
-      record {
-        there = e;
-        long = refl;
-        still = refl;
-        rest = λ fields functions ds rules kept.
-            let l : Lent = record { sorts = sorts; fields = fields; variables = rows; functions = functions; members = members; names = names } in
-            onwards-start (variableRow l ds) (settledVariableRow l ds) n entry place;
-      }
-
-  pub laying-functions : n ≡ count rows → FunctionsLaying sorts rows members names ws ts last scratch entry place scratch entry place n 0
-  laying-functions e =
-      record {
-        there = e;
-        long = refl;
-        still = refl;
-        rest = λ fields variables ds rules kept.
-            let l : Lent = record { sorts = sorts; fields = fields; variables = variables; functions = rows; members = members; names = names } in
-            onwards-start (functionRow l ds) (settledFunctionRow l ds) n entry place;
-      }
-
-  module _ (scratch′ d : List ℕ) (to i : ℕ) where
-    pub laid-variable : VariablesLaying sorts rows members names ws ts last scratch entry place scratch′ d to n i → (scratch″ e : List ℕ) (node next : ℕ) → i < n → node ≡ getD last (i * 2 * 2) 0 →
-        length scratch″ ≡ length scratch′ → length e ≡ length d → WritesLastVariable sorts rows members names ws ts i node d e to next →
-        VariablesLaying sorts rows members names ws ts last scratch entry place scratch″ e next n (i + 1)
-    laid-variable so scratch″ e node next inside q s t p =
-        record {
-          there = so .there;
-          long = t ∙ so .long;
-          still = s ∙ so .still;
-          rest = λ fields functions. lay-variable _ ws ts last entry place d to n i (so .there) e node next inside q (p fields functions) (so .rest fields functions);
-        }
-
-    pub laid-variables : VariablesLaying sorts rows members names ws ts last scratch entry place scratch′ d to n i → n ≤ i → WritesVariables sorts rows members names ws ts last entry d place to
-    laid-variables so past fields functions = all-variables _ ws ts last entry place d to n i (so .there) past (so .rest fields functions)
-
-    pub laid-function : FunctionsLaying sorts rows members names ws ts last scratch entry place scratch′ d to n i → (scratch″ e : List ℕ) (node next : ℕ) → i < n → node ≡ getD last ((i * 2 + 1) * 2) 0 →
-        length scratch″ ≡ length scratch′ → length e ≡ length d → WritesLastFunction sorts rows members names ws ts i node d e to next →
-        FunctionsLaying sorts rows members names ws ts last scratch entry place scratch″ e next n (i + 1)
-    laid-function so scratch″ e node next inside q s t p =
-        record {
-          there = so .there;
-          long = t ∙ so .long;
-          still = s ∙ so .still;
-          rest = λ fields variables. lay-function _ ws ts last entry place d to n i (so .there) e node next inside q (p fields variables) (so .rest fields variables);
-        }
-
-    pub laid-functions : FunctionsLaying sorts rows members names ws ts last scratch entry place scratch′ d to n i → n ≤ i → WritesFunctions sorts rows members names ws ts last entry d place to
-    laid-functions so past fields variables = all-functions _ ws ts last entry place d to n i (so .there) past (so .rest fields variables)
+    pub laying-end : n ≤ i → WritesEntries sorts variables functions members names ws ts last before d place to
+    laying-end past fields = lay-all _ ws ts last before place d to n i (so .there) (so .rest fields) past

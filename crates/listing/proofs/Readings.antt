@@ -1,34 +1,42 @@
--- What a command that defines a variable or a function was read as: the value at its node, or the table of its body, of its sort.
+-- What a command that defines a variable or a function was read as, and that the definition stands on it.
 -- Assumes nothing.
-use mathlib.Core.Path.{_≡_, sym, subst}
-use mathlib.Core.List.{List, [], _∷_}
+use mathlib.Core.Path.{_≡_, refl, sym, ap, _∙_, subst}
+use mathlib.Core.Bool.{true}
+use mathlib.Core.List.{List, [], _∷_, map}
 use mathlib.Core.Option.{Option, none, some}
-use Prim.Native.Nat.{ℕ}
+use Prim.Native.Nat.{ℕ, _+_, _-_, _≤_, _<_}
 use native.Mathlib.Omega.{arith}
+use lib.ListN.{length, length-append}
+use Rattle.ground.specs.Bytes.{bytes}
 use Rattle.refusals.specs.declared.Refusal.the-variants.{UnmatchedType}
-use Rattle.arena.specs.Tree.{Tree}
+use Rattle.order.specs.Every.{Every, none as no-more, also}
+use Rattle.order.proofs.Everies.{every-append}
+use Rattle.arena.specs.Stands.{stands, standAll}
+use Rattle.arena.specs.Tree.{Tree, Trees, symbol, app, nil, cons, nodes, nodesOf, text as treeText, texts as treeTexts, mostNodes, mostText}
+use Rattle.arena.proofs.Layouts.{stands-lays}
 use Rattle.tables.specs.Find.{variableRow, functionRow}
-use Rattle.tables.specs.Layout.{Lent, variableAt, tablesOf}
+use Rattle.tables.specs.Layout.{Lent, tablesOf}
+use Rattle.tables.specs.Rules.{lawful}
 use Rattle.tables.specs.Sort.{Variable, Function, Tables}
+use Rattle.shapes.specs.Shows.{Standing, StandingAll}
 use Rattle.sorts.specs.Result.{Result, ok, _>>=_}
 use Rattle.sorts.specs.Sort.{levels}
-use Rattle.values.specs.Normal.{normal}
 use Rattle.values.specs.Value.{Value}
 use Rattle.literals.specs.Literal.{Lit, read}
-use Rattle.well_sorted.specs.Octets.{Octets}
+use Rattle.well_sorted.specs.Octets.{Octets, OctetsAll}
 use Rattle.well_sorted.proofs.Fits.{read-fits}
 use Rattle.well_sorted.proofs.Results.{refuses, ok-same, went, passed}
-use Rattle.value_text.specs.Laid.{Lays}
-use Rattle.value_text.proofs.Lays.{lays-none}
 use Rattle.commands.specs.declared.command.CommandFound.{CommandFound}
 use Rattle.commands.specs.Command.{Command, variable, function, misshapen, command}
 use Rattle.commands.specs.CommandShows.{CommandShows, CommandAt}
+use Rattle.commands.proofs.Shapes.{define, CommandView, c-variable, c-function, command-view}
 use Rattle.model.specs.Model.{Table, Definition, isVariable, isFunction, readBody, variableValue, functionTable, onRow, readCommand}
-use Rattle.model.specs.Listing.{variableLines}
-use Rattle.commands.proofs.Shapes.{CommandView, c-variable, c-function, command-view}
 use Rattle.demand.proofs.Tables.{body-fits}
-use Rattle.walk.specs.Last.{Defined}
-use Rattle.listing.specs.Lines.{LaysValue, LaysVariable, LaysLastVariable, LaysBody, LaysFunction, LaysLastFunction}
+use Rattle.walk.specs.Placed.{Placed, lastPart, valueAt, placedAt, placed}
+use Rattle.walk.proofs.Sizes.{tree-given}
+use Rattle.listing.specs.Grounds.{TableStands, Stands, Grounded}
+use Rattle.listing.specs.Entries.{LaysBody, LaysFunction}
+use Rattle.listing.specs.Stages.{Sure}
 
 variable-octets : (t : Tree) (name : List ℕ) (sort value : Tree) → CommandView t (variable name sort value) → Octets t → Octets value
 variable-octets _ name sort value c-variable o = o .1 .1 .1 .1 .0
@@ -119,70 +127,98 @@ module _ (T : Tables) where
       let w = went _ _ (isFunction i u) (k .rules) in
       not-both (ok-same (w .next))
 
-module _ (l : Lent) (ws ts : List ℕ) (row node : ℕ) (found : CommandFound) (shows : CommandAt ws ts node found) where
-  -- what the command that stands at the node shows
-  shown : {d : Definition} {long : ℕ} (p : Defined l ws ts d node long) (f : CommandFound) → found ≡ f → CommandShows ws ts f (command (p .tree))
+-- the last of five parts, which ends where they do
+last-of : (ws ts : List ℕ) (a b c d e : Tree) (i j x y value : ℕ) → standAll (cons a (cons b (cons c (cons d (cons e nil))))) ws ts i j x y → value + nodes e ≡ j → Standing e ws ts value
+last-of ws ts a b c d e i j x y value s h =
+    let s5 = s .others .others .others .others in
+    let at = s .others .others .others .mid in
+    let from = s .others .others .others .off in
+    let n = stands-lays ws ts e at (s5 .mid) from (s5 .off) (s5 .first) .next in
+    let z = s5 .others .next in
+    let m : at ≡ value = omega arith in
+    record { next = s5 .mid; from = from; rest = s5 .off; there = subst (λ (k : ℕ). stands e ws ts k (s5 .mid) from (s5 .off)) m (s5 .first) }
+
+module _ (l : Lent) (ws ts : List ℕ) (rules : lawful (tablesOf l) ≡ true) where
+  -- what a command that was read stands on
+  module _ (t : Tree) (i : ℕ) (s : Standing t ws ts i) (o : Octets t) where
+    value-stands : (name : List ℕ) (sort v : Tree) → CommandView t (variable name sort v) → Standing v ws ts (i + nodes t - nodes v)
+    value-stands name sort v w = go t w s
+      where
+        go : (u : Tree) → CommandView u (variable name sort v) → Standing u ws ts i → Standing v ws ts (i + nodes u - nodes v)
+        go _ c-variable z =
+            let n = stands-lays ws ts (define name nil sort v) i (z .next) (z .from) (z .rest) (z .there) .next in
+            last-of ws ts (symbol (bytes "define-fun")) (symbol name) (app nil) sort v (i + 1) (z .next) (z .from) (z .rest) _ (z .there .children) (omega arith)
+
+    stood-on : (c : Command) → command t ≡ c → (d : Definition) → readCommand (tablesOf l) c ≡ ok (d ∷ []) → Stands l ws ts d i (i + nodes t - lastPart c)
+    stood-on (variable name sort v) e (isVariable row x) r =
+        let w = subst (CommandView t) e (command-view t) in
+        let k = variable-read (tablesOf l) name sort v row x r in
+        record {
+          tree = v;
+          there = value-stands name sort v w;
+          expected = k .expected;
+          lit = k .lit;
+          reads = k .first;
+          same = k .same;
+          fits = read-fits (tablesOf l) rules levels (k .expected) v (k .lit) (variable-octets t name sort v w o) (k .first);
+        }
+    stood-on (variable name sort v) e (isFunction row x) r = no-function (tablesOf l) name sort v row x r
+    stood-on (function name x argSort sort body) e (isVariable row v) r = no-variable (tablesOf l) name x argSort sort body row v r
+    stood-on (function name x argSort sort body) e (isFunction row u) r =
+        record { tree = t; there = s; octets = o; reads = subst (λ (c : Command). readCommand (tablesOf l) c ≡ ok (isFunction row u ∷ [])) (sym e) r }
+    stood-on misshapen e d r = refuses r
+
+    grounded-command : 0 < i → nodes t ≤ mostNodes → length (treeText t) ≤ mostText → (ds : List Definition) → readCommand (tablesOf l) (command t) ≡ ok ds → Every (Grounded l ws ts) (map (placedAt i (valueAt t i)) ds)
+    grounded-command p few short [] e = no-more
+    grounded-command p few short (d ∷ ds) e =
+        let g = tree-given (tablesOf l) rules t d ds e in
+        let r : readCommand (tablesOf l) (command t) ≡ ok (d ∷ []) = e ∙ ap (λ (es : List Definition). ok (d ∷ es)) (g .alone) in
+        let here : Grounded l ws ts (placedAt i (valueAt t i) d) = record { no-root = p; within = g .within; small = omega (arith, g .short); stands = stood-on (command t) refl d r } in
+        also here
+        (subst (λ (es : List Definition). Every (Grounded l ws ts) (map (placedAt i (valueAt t i)) es)) (sym (g .alone)) no-more)
+
+  -- the commands, one behind the other
+  grounded-stood : (us : Trees) (i j x y : ℕ) → standAll us ws ts i j x y → 0 < i → OctetsAll us → nodesOf us ≤ mostNodes → length (treeTexts us) ≤ mostText →
+      (ps : List Placed) → placed (tablesOf l) i us ≡ ok ps → Every (Grounded l ws ts) ps
+  unfolding placed
+  grounded-stood nil i j x y s p o few short ps e = subst (Every (Grounded l ws ts)) (ok-same e) no-more
+  grounded-stood (cons t us) i j x y s p o few short ps e =
+      let a = went (readCommand (tablesOf l) (command t)) _ ps e in
+      let b = went (placed (tablesOf l) (i + nodes t) us) _ ps (a .next) in
+      let k = length-append (treeText t) (treeTexts us) in
+      let n = stands-lays ws ts t i (s .mid) x (s .off) (s .first) .next in
+      subst (Every (Grounded l ws ts)) (ok-same (b .next))
+      (every-append (Grounded l ws ts) (map (placedAt i (valueAt t i)) (a .got)) (b .got)
+      (grounded-command t i (record { next = s .mid; from = x; rest = s .off; there = s .first }) (o .0) p (omega arith) (omega arith) (a .got) (a .first))
+      (grounded-stood us (i + nodes t) j (s .off) y (subst (λ (m : ℕ). standAll us ws ts m j (s .off) y) n (s .others)) (omega arith) (o .1) (omega arith) (omega arith) (b .got) (b .first)))
+
+pub commands-grounded : (l : Lent) (ws ts : List ℕ) (us : Trees) (many : ℕ) → StandingAll us ws ts 1 many → Sure l us → (ps : List Placed) → placed (tablesOf l) 1 us ≡ ok ps → Every (Grounded l ws ts) ps
+commands-grounded l ws ts us many s sure ps e =
+    grounded-stood l ws ts (sure .rules) us 1 (s .next) (s .from) (s .rest) (s .there) (omega arith) (sure .octets) (sure .few) (sure .short) ps e
+
+-- a function's lines, by the command at its node
+module _ (l : Lent) (ws ts : List ℕ) (row node : ℕ) (found : CommandFound) (shows : CommandAt ws ts node found) (a b : List ℕ) (place r : ℕ) where
+  shown : {t : Table} (p : TableStands l ws ts row t node) (f : CommandFound) → found ≡ f → CommandShows ws ts f (command (p .tree))
   shown p f e = subst (λ (x : CommandFound). CommandShows ws ts x (command (p .tree))) e (shows (p .tree) (p .there))
 
-  reads-as : {d : Definition} {long : ℕ} (p : Defined l ws ts d node long) (c : Command) → command (p .tree) ≡ c → readCommand (tablesOf l) c ≡ ok (d ∷ [])
-  reads-as {d} p c e = subst (λ (x : Command). readCommand (tablesOf l) x ≡ ok (d ∷ [])) e (p .reads)
+  reads-as : {t : Table} (p : TableStands l ws ts row t node) (c : Command) → command (p .tree) ≡ c → readCommand (tablesOf l) c ≡ ok (isFunction row t ∷ [])
+  reads-as {t} p c e = subst (λ (x : Command). readCommand (tablesOf l) x ≡ ok (isFunction row t ∷ [])) e (p .reads)
 
-  viewed : {d : Definition} {long : ℕ} (p : Defined l ws ts d node long) (c : Command) → command (p .tree) ≡ c → CommandView (p .tree) c
-  viewed p c e = subst (CommandView (p .tree)) e (command-view (p .tree))
+  pub by-body : (size offset argSize argOffset argSort sort body : ℕ) → found ≡ CommandFound.Function size offset argSize argOffset argSort sort body →
+      LaysBody l ws ts row argOffset argSize body a b place r → LaysFunction l ws ts row node a b place r
+  by-body size offset argSize argOffset argSort sort body e f t rules p =
+      let s = shown p (CommandFound.Function size offset argSize argOffset argSort sort body) e in
+      let c = function (s .0) (s .1) (s .2) (s .3) (s .4) in
+      let g : command (p .tree) ≡ c = s .5 in
+      let k = function-read (tablesOf l) (s .0) (s .1) (s .2) (s .3) (s .4) row t (reads-as p c g) in
+      let o = function-octets (p .tree) (s .0) (s .1) (s .2) (s .3) (s .4) (subst (CommandView (p .tree)) g (command-view (p .tree))) (p .octets) in
+      f (s .1) (s .4) (k .argument) (k .result) t (s .7) (s .10) (k .reads)
+      (body-fits (tablesOf l) rules (s .1) (k .argument) (k .result) (s .4) t o (k .reads))
 
-  module _ (a b : List ℕ) (place r : ℕ) where
-    pub by-value : (size offset sort value : ℕ) → found ≡ CommandFound.Variable size offset sort value → LaysValue l ws ts row value a b place r → LaysVariable l ws ts row node a b place r
-    by-value size offset sort value e f v long rules p =
-        let s = shown p (CommandFound.Variable size offset sort value) e in
-        let c = variable (s .0) (s .1) (s .2) in
-        let g : command (p .tree) ≡ c = s .3 in
-        let k = variable-read (tablesOf l) (s .0) (s .1) (s .2) row v (reads-as p c g) in
-        let o = variable-octets (p .tree) (s .0) (s .1) (s .2) (viewed p c g) (p .octets) in
-        subst (λ (x : Value). Lays (variableLines (variableAt l row) (some x)) (variableLines (variableAt l row) (some (normal x))) a b place r) (k .same)
-        (f (s .2) (s .6) (k .expected) (k .lit) (k .first) (k .lit .row) (read-fits (tablesOf l) rules levels (k .expected) (s .2) (k .lit) o (k .first)))
+  pub by-variable : (size offset sort value : ℕ) → found ≡ CommandFound.Variable size offset sort value → LaysFunction l ws ts row node a b place r
+  by-variable size offset sort value e t rules p =
+      let s = shown p (CommandFound.Variable size offset sort value) e in
+      no-function (tablesOf l) (s .0) (s .1) (s .2) row t (reads-as p (variable (s .0) (s .1) (s .2)) (s .3))
 
-    pub by-body : (size offset argSize argOffset argSort sort body : ℕ) → found ≡ CommandFound.Function size offset argSize argOffset argSort sort body →
-        LaysBody l ws ts row argOffset argSize body a b place r → LaysFunction l ws ts row node a b place r
-    by-body size offset argSize argOffset argSort sort body e f t long rules p =
-        let s = shown p (CommandFound.Function size offset argSize argOffset argSort sort body) e in
-        let c = function (s .0) (s .1) (s .2) (s .3) (s .4) in
-        let g : command (p .tree) ≡ c = s .5 in
-        let k = function-read (tablesOf l) (s .0) (s .1) (s .2) (s .3) (s .4) row t (reads-as p c g) in
-        let o = function-octets (p .tree) (s .0) (s .1) (s .2) (s .3) (s .4) (viewed p c g) (p .octets) in
-        f (s .1) (s .4) (k .argument) (k .result) t (s .7) (s .10) (k .reads)
-        (body-fits (tablesOf l) rules (s .1) (k .argument) (k .result) (s .4) t o (k .reads))
-
-    pub variable-by-function : (size offset argSize argOffset argSort sort body : ℕ) → found ≡ CommandFound.Function size offset argSize argOffset argSort sort body → LaysVariable l ws ts row node a b place r
-    variable-by-function size offset argSize argOffset argSort sort body e v long rules p =
-        let s = shown p (CommandFound.Function size offset argSize argOffset argSort sort body) e in
-        no-variable (tablesOf l) (s .0) (s .1) (s .2) (s .3) (s .4) row v (reads-as p (function (s .0) (s .1) (s .2) (s .3) (s .4)) (s .5))
-
-    pub variable-misshapen : found ≡ CommandFound.Misshapen → LaysVariable l ws ts row node a b place r
-    variable-misshapen e v long rules p = refuses (reads-as p misshapen (shown p CommandFound.Misshapen e))
-
-    pub function-by-variable : (size offset sort value : ℕ) → found ≡ CommandFound.Variable size offset sort value → LaysFunction l ws ts row node a b place r
-    function-by-variable size offset sort value e t long rules p =
-        let s = shown p (CommandFound.Variable size offset sort value) e in
-        no-function (tablesOf l) (s .0) (s .1) (s .2) row t (reads-as p (variable (s .0) (s .1) (s .2)) (s .3))
-
-    pub function-misshapen : found ≡ CommandFound.Misshapen → LaysFunction l ws ts row node a b place r
-    function-misshapen e t long rules p = refuses (reads-as p misshapen (shown p CommandFound.Misshapen e))
-
--- by what is noted
-module _ (l : Lent) (ws ts : List ℕ) (row node : ℕ) where
-  pub last-no-variable : (a : List ℕ) (place : ℕ) → node ≡ 0 → LaysLastVariable l ws ts row node a a place place
-  last-no-variable a place e none long rules h = lays-none a place
-  last-no-variable a place e (some v) long rules h = let n = h .no-root in absurd (omega (arith, e, n))
-
-  pub last-no-function : (a : List ℕ) (place : ℕ) → node ≡ 0 → LaysLastFunction l ws ts row node a a place place
-  last-no-function a place e none long rules h = lays-none a place
-  last-no-function a place e (some t) long rules h = let n = h .no-root in absurd (omega (arith, e, n))
-
-  module _ (a b : List ℕ) (place r : ℕ) (some-node : node ≡ 0 → ⊥) where
-    pub last-a-variable : LaysVariable l ws ts row node a b place r → LaysLastVariable l ws ts row node a b place r
-    last-a-variable f none long rules h = absurd (some-node h)
-    last-a-variable f (some v) long rules h = f v long rules h
-
-    pub last-a-function : LaysFunction l ws ts row node a b place r → LaysLastFunction l ws ts row node a b place r
-    last-a-function f none long rules h = absurd (some-node h)
-    last-a-function f (some t) long rules h = f t long rules h
+  pub by-refused : (why : Refusal) → found ≡ CommandFound.Refused why → LaysFunction l ws ts row node a b place r
+  by-refused why e t rules p = refuses (reads-as p misshapen (shown p (CommandFound.Refused why) e .0))

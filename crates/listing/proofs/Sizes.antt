@@ -4,7 +4,7 @@ use mathlib.Core.Path.{_≡_, refl, sym, _∙_}
 use mathlib.Core.Bool.{true, _&&_}
 use mathlib.Core.List.{List, _++_}
 use mathlib.Core.Option.{some}
-use Prim.Native.Nat.{ℕ, min, _+_, _-_, _^_, _≤_, _<_}
+use Prim.Native.Nat.{ℕ, min, _+_, _-_, _≤_, _<_}
 use native.Mathlib.Omega.{arith}
 use lib.Dec.{leb}
 use lib.ListN.{length, length-append}
@@ -28,7 +28,8 @@ use Rattle.model.specs.Model.{Table}
 use Rattle.model.specs.Listing.{line, armLines, variableLines, functionLines}
 use Rattle.model.proofs.Lengths.{length-line}
 use Rattle.definitions.specs.Measure.{valueSize, tableSize}
-use Rattle.listing.specs.Lines.{header, variableSize, functionSize}
+use Rattle.listing.specs.Line.{header}
+use Rattle.listing.specs.Tally.{variableSize, functionSize}
 
 pub length-header : (v f : ℕ) → length (header v f) ≡ digitCount v + digitCount f + 12
 length-header v f =
@@ -78,12 +79,6 @@ module _ (l : Lent) (row : ℕ) where
 
     pub function-most : (long : ℕ) → row < count (l .functions) → functionSize (l .names) (l .functions) row long ≤ long + 66000
     function-most long h = omega (arith, function-name h, count-most (word (l .functions) row 2), count-most (word (l .functions) row 3))
-
-    pub variable-small : (long : ℕ) → row < count (l .variables) → long < 2 ^ 48 → variableSize (l .names) (l .variables) row long ≤ 562949953421312
-    variable-small long h s = omega (arith, variable-most long h)
-
-    pub function-small : (long : ℕ) → row < count (l .functions) → long < 2 ^ 48 → functionSize (l .names) (l .functions) row long ≤ 562949953421312
-    function-small long h s = omega (arith, function-most long h)
 
 -- summed up as far as a word counts
 three-capped : (a b long : ℕ) → min (min (min (a + b) 18446744073709551615 + 18) 18446744073709551615 + long) 18446744073709551615 ≡ min (a + b + 18 + long) 18446744073709551615

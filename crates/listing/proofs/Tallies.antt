@@ -1,193 +1,207 @@
--- Names that are defined, counted row by row, and the lengths of their lines summed up.
+-- Names that are defined, counted slot by slot, and the lengths of their lines summed up.
 -- Assumes nothing.
-use mathlib.Core.Path.{_≡_, refl, sym, ap, _∙_, subst}
+use mathlib.Core.Path.{_≡_, sym, ap, _∙_, subst}
 use mathlib.Core.Bool.{true}
 use mathlib.Core.List.{List}
-use mathlib.Core.Option.{Option, none, some}
-use Prim.Native.Nat.{ℕ, _+_, _*_, _-_, _≤_, _<_}
+use mathlib.Core.Option.{Option}
+use Prim.Native.Nat.{ℕ, min, _+_, _*_, _-_, _^_, _≤_, _<_}
 use native.Mathlib.Nat.{sub-zero}
 use native.Mathlib.Omega.{arith}
-use lib.ListN.{length, getD}
-use borrow.Author.Tests.{eq-eqb, ne-eqb}
-use Rattle.tables.specs.Layout.{Lent, count, variableAt, functionAt, tablesOf}
+use lib.ListN.{length}
+use Rattle.order.specs.Every.{Every}
+use Rattle.tables.specs.Layout.{Lent, count, tablesOf}
 use Rattle.tables.specs.Rules.{lawful}
-use Rattle.values.specs.Value.{Value}
 use Rattle.literals.specs.Answer.{capped}
-use Rattle.model.specs.Model.{Table, Definition, lastVariable, lastFunction}
-use Rattle.model.specs.Listing.{one, variableLines, functionLines, variablesFrom, functionsFrom, variableCount, functionCount}
-use Rattle.walk.specs.Last.{Kept}
+use Rattle.model.specs.Model.{Definition, isVariable, isFunction}
+use Rattle.definitions.specs.Measure.{valueSize, tableSize}
+use Rattle.walk.specs.Noted.{size}
+use Rattle.walk.specs.Last.{slots, nodeWord, needWord, wordAt, lastIn}
+use Rattle.walk.specs.Placed.{Placed, its}
 use Rattle.listing.specs.declared.tally.Tally.{Tally}
-use Rattle.listing.specs.Lines.{variableSize, functionSize, added, Tallied, HoldsVariable, HoldsFunction, OfVariables, OfFunctions, CountsVariables, CountsFunctions, TalliesVariables, TalliesFunctions}
-use Rattle.listing.proofs.Lasts.{held-variable, held-function}
-use Rattle.listing.proofs.Rows.{sums, sums-next, sums-end, length-texts, variableRow, functionRow, variables-are, variables-counted, functions-are, functions-counted, few-variables, few-functions}
-use Rattle.listing.proofs.Sizes.{length-variable, length-function, variable-small, function-small}
+use Rattle.listing.specs.Grounds.{Grounded, Known}
+use Rattle.listing.specs.Entries.{entry, entryIn, OfBoth}
+use Rattle.listing.specs.Tally.{variableSize, functionSize, variableOne, functionOne, oneIn, Small, Added, Tallied, AddsEntry, Tallies}
+use Rattle.listing.proofs.Folds.{sums, over-next, over-end, length-texts}
+use Rattle.listing.proofs.Lasts.{Found, nothing, a-variable, a-function, slot-found, Slot, empty, variable, function, slot-known}
+use Rattle.listing.proofs.Rows.{many, many-few, entryOf, entries-are, variables-summed, functions-summed}
+use Rattle.listing.proofs.Sizes.{length-variable, length-function, variable-most, function-most}
 
-pub added-none : (s : Tally) (node long : ℕ) → node ≡ 0 → s ≡ added s node long
-added-none s node long e = rw (eq-eqb node 0 e) refl
+plus-none : (a : ℕ) → a ≡ a + 0
+plus-none a = omega arith
 
-pub added-one : (s : Tally) (node long a b : ℕ) → (node ≡ 0 → ⊥) → a ≡ capped (s .count + 1) → b ≡ capped (s .need + long) → record { count = a; need = b } ≡ added s node long
-added-one s node long a b e f g = rw (ne-eqb node 0 e, f, g) refl
+-- how long an entry can be
+abbrev pub most : ℕ
+most = 8796093022208
 
--- what a row counts for, by the node that is noted for it
-data Counts (c g node long : ℕ) : Type 0 where
-  nothing : node ≡ 0 → c ≡ 0 → g ≡ 0 → Counts c g node long
-  once : 0 < node → c ≡ 1 → g ≡ long → long ≤ 562949953421312 → Counts c g node long
+found-short : (l : Lent) (ws ts : List ℕ) (k : ℕ) → lawful (tablesOf l) ≡ true → (o : Option Placed) → Found l ws ts k o → length (entryIn l o) ≤ most
+found-short l ws ts k rules _ nothing = omega arith
+found-short l ws ts k rules _ (a-variable v e low g) =
+    let small : size (isVariable k v) < 2 ^ 42 = subst (λ (d : Definition). size d < 2 ^ 42) e (g .small) in
+    subst (λ (d : Definition). length (entry l d) ≤ most) (sym e) (omega (arith, length-variable l k v, variable-most l k rules (valueSize v) low))
+found-short l ws ts k rules _ (a-function i t e high low g) =
+    let small : size (isFunction i t) < 2 ^ 42 = subst (λ (d : Definition). size d < 2 ^ 42) e (g .small) in
+    subst (λ (d : Definition). length (entry l d) ≤ most) (sym e) (omega (arith, length-function l i t, function-most l i rules (tableSize t) low))
 
-pub record Counted (c g : ℕ → ℕ) (n i : ℕ) (s : Tally) : Type 0 where
+pub entry-short : (l : Lent) (ws ts : List ℕ) (k : ℕ) → lawful (tablesOf l) ≡ true → (ps : List Placed) → Every (Grounded l ws ts) ps → length (entryOf l ps k) ≤ most
+entry-short l ws ts k rules ps gs = found-short l ws ts k rules (lastIn l k ps) (slot-found l ws ts k ps gs)
+
+module _ (l : Lent) (ws ts last : List ℕ) (k : ℕ) (rules : lawful (tablesOf l) ≡ true) where
+  -- what is added for a slot
+  module _ (s : Tally) (small : Small s) (node : ℕ) (q : node ≡ wordAt last k nodeWord) where
+    none-added : node ≡ 0 → (o : Option Placed) → Slot l ws ts last k o → Added l o s s
+    none-added e _ (empty z) = record { variables = omega arith; functions = omega arith; need = omega arith }
+    none-added e _ (variable v z n) = absurd (omega (arith, q, e, n .some-node))
+    none-added e _ (function i t z n) = absurd (omega (arith, q, e, n .some-node))
+
+    module _ (there : node ≡ 0 → ⊥) (long : ℕ) (f : long ≡ wordAt last k needWord) (sum : ℕ) where
+      counted : (a n : ℕ) → a ≡ min (n + 1) 18446744073709551615 → n ≤ 2048 → a ≡ n + 1
+      counted a n e h = omega arith
+
+      summed : (size : ℕ) → sum ≡ capped (s .need + capped size) → size ≤ most → sum ≡ s .need + size
+      summed size e h = let z = small .need in omega arith
+
+      variable-added : k < count (l .variables) → (size one : ℕ) → size ≡ capped (variableSize (l .names) (l .variables) k long) → one ≡ capped (s .variables + 1) → sum ≡ capped (s .need + size) →
+          (o : Option Placed) → Slot l ws ts last k o → Added l o s (record { variables = one; functions = s .functions; need = sum })
+      variable-added b size one g u w _ (empty z) = absurd (there (q ∙ z))
+      variable-added b size one g u w _ (variable {p} v z n) =
+          let e : length (entry l (p .it)) ≡ variableSize (l .names) (l .variables) k (valueSize v) = ap (λ (d : Definition). length (entry l d)) z ∙ length-variable l k v in
+          let y = variable-most l k rules (valueSize v) (n .low) in
+          let x = n .small in
+          let w′ : sum ≡ capped (s .need + capped (variableSize (l .names) (l .variables) k (valueSize v))) = w ∙ ap (λ (j : ℕ). capped (s .need + j)) (g ∙ ap (λ (j : ℕ). capped (variableSize (l .names) (l .variables) k j)) (f ∙ n .long)) in
+          record {
+            variables = counted one (s .variables) u (small .variables) ∙ ap (λ (d : Definition). s .variables + variableOne d) (sym z);
+            functions = plus-none (s .functions) ∙ ap (λ (d : Definition). s .functions + functionOne d) (sym z);
+            need = summed (variableSize (l .names) (l .variables) k (valueSize v)) w′ (omega arith) ∙ ap (λ (j : ℕ). s .need + j) (sym e);
+          }
+      variable-added b size one g u w _ (function i t z n) = absurd (omega (arith, b, n .high))
+
+      function-added : count (l .variables) ≤ k → (row size one : ℕ) → row ≡ k - count (l .variables) → size ≡ capped (functionSize (l .names) (l .functions) row long) → one ≡ capped (s .functions + 1) → sum ≡ capped (s .need + size) →
+          (o : Option Placed) → Slot l ws ts last k o → Added l o s (record { variables = s .variables; functions = one; need = sum })
+      function-added b row size one m g u w _ (empty z) = absurd (there (q ∙ z))
+      function-added b row size one m g u w _ (variable v z n) = absurd (omega (arith, b, n .low))
+      function-added b row size one m g u w _ (function {p} i t z n) =
+          let r : row ≡ i = omega (arith, m, n .high) in
+          let e : length (entry l (p .it)) ≡ functionSize (l .names) (l .functions) i (tableSize t) = ap (λ (d : Definition). length (entry l d)) z ∙ length-function l i t in
+          let y = function-most l i rules (tableSize t) (n .low) in
+          let x = n .small in
+          let w′ : sum ≡ capped (s .need + capped (functionSize (l .names) (l .functions) i (tableSize t))) =
+          w ∙ ap (λ (j : ℕ). capped (s .need + j)) (g ∙ ap (λ (j : ℕ). capped (functionSize (l .names) (l .functions) row j)) (f ∙ n .long) ∙ ap (λ (j : ℕ). capped (functionSize (l .names) (l .functions) j (tableSize t))) r) in
+          record {
+            variables = plus-none (s .variables) ∙ ap (λ (d : Definition). s .variables + variableOne d) (sym z);
+            functions = counted one (s .functions) u (small .functions) ∙ ap (λ (d : Definition). s .functions + functionOne d) (sym z);
+            need = summed (functionSize (l .names) (l .functions) i (tableSize t)) w′ (omega arith) ∙ ap (λ (j : ℕ). s .need + j) (sym e);
+          }
+
+-- the same of what is lent
+module _ (variables functions names last : List ℕ) (k : ℕ) (s : Tally) (node : ℕ) (q : node ≡ wordAt last k nodeWord) where
+  pub add-none : node ≡ 0 → AddsEntry variables functions names last k s s
+  add-none e sorts members ws ts fields ps known low small = none-added _ ws ts last k (known .rules) s small node q e _ (slot-known _ ws ts last k ps known low)
+
+  module _ (there : node ≡ 0 → ⊥) (long : ℕ) (f : long ≡ wordAt last k needWord) (rows : ℕ) (h : rows ≡ count variables) (size one sum : ℕ) where
+    pub add-variable : k < rows → size ≡ capped (variableSize names variables k long) → one ≡ capped (s .variables + 1) → sum ≡ capped (s .need + size) →
+        AddsEntry variables functions names last k s (record { variables = one; functions = s .functions; need = sum })
+    add-variable b g u w sorts members ws ts fields ps known low small =
+        variable-added _ ws ts last k (known .rules) s small node q there long f sum (omega arith) size one g u w _ (slot-known _ ws ts last k ps known low)
+
+    pub add-function : rows ≤ k → (row : ℕ) → row ≡ k - rows → size ≡ capped (functionSize names functions row long) → one ≡ capped (s .functions + 1) → sum ≡ capped (s .need + size) →
+        AddsEntry variables functions names last k s (record { variables = s .variables; functions = one; need = sum })
+    add-function b row m g u w sorts members ws ts fields ps known low small =
+        function-added _ ws ts last k (known .rules) s small node q there long f sum (omega arith) row size one (omega arith) g u w _ (slot-known _ ws ts last k ps known low)
+
+-- so far and from here on
+pub record Counted (v f g : ℕ → ℕ) (n i : ℕ) (s : Tally) : Type 0 where
   pub within : i ≤ n
-  pub counts : s .count + sums c i (n - i) ≡ sums c 0 n
-  pub needs : s .need + sums g i (n - i) ≡ sums g 0 n
-  pub few : s .count ≤ i
-  pub small : s .need ≤ i * 562949953421312
+  pub variables : s .variables + sums v i (n - i) ≡ sums v 0 n
+  pub functions : s .functions + sums f i (n - i) ≡ sums f 0 n
+  pub need : s .need + sums g i (n - i) ≡ sums g 0 n
+  pub few : s .variables + s .functions ≤ i
+  pub small : s .need ≤ i * most
 
-module _ (c g : ℕ → ℕ) (n : ℕ) where
-  counted-start : Counted c g n 0 (record { count = 0; need = 0 })
-  counted-start =
-      record {
-        within = omega arith;
-        counts = ap (λ (m : ℕ). 0 + sums c 0 m) (sub-zero n) ∙ (omega arith);
-        needs = ap (λ (m : ℕ). 0 + sums g 0 m) (sub-zero n) ∙ (omega arith);
-        few = omega arith;
-        small = omega arith;
-      }
+module _ (v f g : ℕ → ℕ) (n : ℕ) where
+  all-left : (h : ℕ → ℕ) → 0 + sums h 0 (n - 0) ≡ sums h 0 n
+  all-left h = ap (λ (m : ℕ). 0 + sums h 0 m) (sub-zero n) ∙ (omega arith)
 
-  module _ (few : n ≤ 1024) (i : ℕ) (s : Tally) (so : Counted c g n i s) where
-    counted-step : (node long : ℕ) → i < n → Counts (c i) (g i) node long → Counted c g n (i + 1) (added s node (capped long))
-    counted-step node long inside (nothing e f h) =
-        let p = sums-next c n i inside in
-        let q = sums-next g n i inside in
-        subst (Counted c g n (i + 1)) (added-none s node (capped long) e)
-        (record {
+  counted-start : Counted v f g n 0 (record { variables = 0; functions = 0; need = 0 })
+  counted-start = record { within = omega arith; variables = all-left v; functions = all-left f; need = all-left g; few = omega arith; small = omega arith }
+
+  module _ (i : ℕ) (s : Tally) (so : Counted v f g n i s) where
+    one-more : (h : ℕ → ℕ) (x y : ℕ) → i < n → x + sums h i (n - i) ≡ sums h 0 n → y ≡ x + h i → y + sums h (i + 1) (n - (i + 1)) ≡ sums h 0 n
+    one-more h x y inside e q = omega (arith, over-next (λ a b. a + b) 0 h n i inside, e, q)
+
+    none-left : (h : ℕ → ℕ) (x : ℕ) → n ≤ i → x + sums h i (n - i) ≡ sums h 0 n → x ≡ sums h 0 n
+    none-left h x past e = omega (arith, over-end (λ a b. a + b) 0 h n i past, e)
+
+    counted-step : (r : Tally) → i < n → r .variables ≡ s .variables + v i → r .functions ≡ s .functions + f i → r .need ≡ s .need + g i → v i + f i ≤ 1 → g i ≤ most → Counted v f g n (i + 1) r
+    counted-step r inside p q u one short =
+        let few = so .few in
+        let small = so .small in
+        record {
           within = omega arith;
-          counts = omega (arith, p, f, so .counts);
-          needs = omega (arith, q, h, so .needs);
-          few = omega (arith, so .few);
-          small = omega (arith, so .small);
-        })
-    counted-step node long inside (once e f h k) =
-        let p = sums-next c n i inside in
-        let q = sums-next g n i inside in
-        let b = so .few in
-        let d = so .small in
-        let x : s .count + 1 ≡ capped (s .count + 1) = omega arith in
-        let y : s .need + long ≡ capped (s .need + capped long) = omega arith in
-        subst (Counted c g n (i + 1)) (added-one s node (capped long) (s .count + 1) (s .need + long) (λ z. omega arith) x y)
-        (record {
-          within = omega arith;
-          counts = omega (arith, p, f, so .counts);
-          needs = omega (arith, q, h, so .needs);
+          variables = one-more v (s .variables) (r .variables) inside (so .variables) p;
+          functions = one-more f (s .functions) (r .functions) inside (so .functions) q;
+          need = one-more g (s .need) (r .need) inside (so .need) u;
           few = omega arith;
           small = omega arith;
-        })
+        }
 
-    counted-end : n ≤ i → Tallied (sums c 0 n) (sums g 0 n) s
-    counted-end past =
-        let p = sums-end c n i past in
-        let q = sums-end g n i past in
-        let x : s .count ≡ sums c 0 n = omega (arith, so .counts) in
-        let y : s .need ≡ sums g 0 n = omega (arith, so .needs) in
-        let b = so .few in
-        let d = so .small in
-        let w = so .within in
-        record { counts = x; needs = y; small = omega arith }
+-- what the loop keeps
+module _ (l : Lent) (ps : List Placed) where
+  abbrev Counting : ℕ → ℕ → Tally → Type 0
+  Counting n i s = Counted (λ k. oneIn variableOne (lastIn l k ps)) (λ k. oneIn functionOne (lastIn l k ps)) (λ k. length (entryIn l (lastIn l k ps))) n i s
 
-module _ (l : Lent) (ws ts : List ℕ) (ds : List Definition) (rules : lawful (tablesOf l) ≡ true) where
-  counts-variable : (i node long : ℕ) → i < count (l .variables) → (o : Option Value) → HoldsVariable l ws ts i o node long →
-      Counts (one ds o) (length (variableLines (variableAt l i) o)) node (variableSize (l .names) (l .variables) i long)
-  counts-variable i node long h none d = nothing d refl refl
-  counts-variable i node long h (some v) d =
-      once (d .no-root) refl
-      (length-variable l i v ∙ ap (λ (k : ℕ). variableSize (l .names) (l .variables) i k) (sym (d .long-is)))
-      (variable-small l i rules long h (omega (arith, d .long-is, d .small)))
+pub record Sofar (variables functions names last : List ℕ) (n i : ℕ) (s : Tally) : Type 0 where
+  pub there : n ≡ count variables + count functions
+  pub rest : (sorts members ws ts : List ℕ) → OfBoth (λ l. (ps : List Placed) → Known l ws ts last ps → Counting l ps n i s) sorts variables functions members names
 
-  counts-function : (i node long : ℕ) → i < count (l .functions) → (o : Option Table) → HoldsFunction l ws ts i o node long →
-      Counts (one ds o) (length (functionLines (functionAt l i) o)) node (functionSize (l .names) (l .functions) i long)
-  counts-function i node long h none d = nothing d refl refl
-  counts-function i node long h (some t) d =
-      once (d .no-root) refl
-      (length-function l i t ∙ ap (λ (k : ℕ). functionSize (l .names) (l .functions) i k) (sym (d .long-is)))
-      (function-small l i rules long h (omega (arith, d .long-is, d .small)))
+one-of : (l : Lent) (ws ts last : List ℕ) (k : ℕ) (o : Option Placed) → Slot l ws ts last k o → oneIn variableOne o + oneIn functionOne o ≤ 1
+one-of l ws ts last k _ (empty e) = omega arith
+one-of l ws ts last k _ (variable v e n) = subst (λ (d : Definition). variableOne d + functionOne d ≤ 1) (sym e) (omega arith)
+one-of l ws ts last k _ (function i t e n) = subst (λ (d : Definition). variableOne d + functionOne d ≤ 1) (sym e) (omega arith)
 
--- what the loops keep
-abbrev CountingVariables : Lent → List ℕ → ℕ → ℕ → Tally → Type 0
-CountingVariables l last n i s =
-    (ws ts : List ℕ) (ds : List Definition) → lawful (tablesOf l) ≡ true → Kept l ws ts ds last → Counted (λ j. one ds (lastVariable j ds)) (λ j. length (variableRow l ds j)) n i s
+module _ (l : Lent) (ws ts last : List ℕ) (n i : ℕ) (s : Tally) (there : n ≡ many l) (ps : List Placed) (known : Known l ws ts last ps) (so : Counting l ps n i s) where
+  sofar-small : i ≤ n → Small s
+  sofar-small b =
+      let h = many-few l (known .rules) in
+      let few = so .few in
+      let small = so .small in
+      record { variables = omega arith; functions = omega arith; need = omega arith }
 
-pub record VariablesSofar (variables names last : List ℕ) (n i : ℕ) (s : Tally) : Type 0 where
-  pub there : n ≡ count variables
-  pub rest : (sorts members : List ℕ) → OfVariables (λ l. CountingVariables l last n i s) sorts variables members names
+  step : (r : Tally) → i < n → (i < slots → Small s → Added l (lastIn l i ps) s r) → Counting l ps n (i + 1) r
+  step r inside add =
+      let h = many-few l (known .rules) in
+      let low : i < slots = omega arith in
+      let a = add low (sofar-small (omega arith)) in
+      let o = slot-known l ws ts last i ps known low in
+      counted-step _ _ _ n i s so r inside (a .variables) (a .functions) (a .need) (one-of l ws ts last i _ o) (entry-short l ws ts i (known .rules) ps (known .grounded))
 
-abbrev CountingFunctions : Lent → List ℕ → ℕ → ℕ → Tally → Type 0
-CountingFunctions l last n i s =
-    (ws ts : List ℕ) (ds : List Definition) → lawful (tablesOf l) ≡ true → Kept l ws ts ds last → Counted (λ j. one ds (lastFunction j ds)) (λ j. length (functionRow l ds j)) n i s
+  finish : n ≤ i → Tallied l (its ps) s
+  finish past =
+      let h = many-few l (known .rules) in
+      let within = so .within in
+      let x = none-left _ _ _ n i s so (λ k. oneIn variableOne (lastIn l k ps)) (s .variables) past (so .variables) in
+      let y = none-left _ _ _ n i s so (λ k. oneIn functionOne (lastIn l k ps)) (s .functions) past (so .functions) in
+      let z = none-left _ _ _ n i s so (λ k. length (entryOf l ps k)) (s .need) past (so .need) in
+      record {
+        variables = x ∙ ap (λ (m : ℕ). sums (λ k. oneIn variableOne (lastIn l k ps)) 0 m) there ∙ variables-summed l ws ts ps (known .grounded);
+        functions = y ∙ ap (λ (m : ℕ). sums (λ k. oneIn functionOne (lastIn l k ps)) 0 m) there ∙ functions-summed l ws ts ps (known .grounded);
+        need =
+            z ∙ ap (λ (m : ℕ). sums (λ k. length (entryOf l ps k)) 0 m) there
+            ∙ sym (length-texts (entryOf l ps) 0 (many l)) ∙ ap length (entries-are l ws ts ps (known .grounded));
+        small = sofar-small within .need;
+      }
 
-pub record FunctionsSofar (functions names last : List ℕ) (n i : ℕ) (s : Tally) : Type 0 where
-  pub there : n ≡ count functions
-  pub rest : (sorts members : List ℕ) → OfFunctions (λ l. CountingFunctions l last n i s) sorts functions members names
+module _ (variables functions names last : List ℕ) (n : ℕ) where
+  pub tally-start : n ≡ count variables + count functions → Sofar variables functions names last n 0 (record { variables = 0; functions = 0; need = 0 })
+  tally-start e = record { there = e; rest = λ sorts members ws ts fields ps known. counted-start _ _ _ n }
 
-module _ (l : Lent) (last : List ℕ) (n i : ℕ) (s : Tally) where
-  step-variable : n ≡ count (l .variables) → (node long size : ℕ) → i < n → node ≡ getD last (i * 2 * 2) 0 → long ≡ getD last (i * 2 * 2 + 1) 0 →
-      size ≡ capped (variableSize (l .names) (l .variables) i long) → CountingVariables l last n i s → CountingVariables l last n (i + 1) (added s node size)
-  step-variable there node long size inside e f g so ws ts ds rules kept =
-      let few = few-variables l rules in
-      let h = held-variable l ws ts ds last kept i (omega arith) in
-      let h′ = subst (λ (k : ℕ). HoldsVariable l ws ts i (lastVariable i ds) k (getD last (i * 2 * 2 + 1) 0)) (sym e) h in
-      let h″ = subst (λ (k : ℕ). HoldsVariable l ws ts i (lastVariable i ds) node k) (sym f) h′ in
-      subst (λ (k : ℕ). Counted (λ j. one ds (lastVariable j ds)) (λ j. length (variableRow l ds j)) n (i + 1) (added s node k)) (sym g)
-      (counted-step (λ j. one ds (lastVariable j ds)) (λ j. length (variableRow l ds j)) n (omega arith) i s (so ws ts ds rules kept) node (variableSize (l .names) (l .variables) i long) inside
-      (counts-variable l ws ts ds rules i node long (omega arith) (lastVariable i ds) h″))
+  module _ (i : ℕ) (s : Tally) (so : Sofar variables functions names last n i s) where
+    pub tally-step : i < n → (r : Tally) → AddsEntry variables functions names last i s r → Sofar variables functions names last n (i + 1) r
+    tally-step inside r add =
+        record {
+          there = so .there;
+          rest = λ sorts members ws ts fields ps known.
+              step _ ws ts last n i s (so .there) ps known (so .rest sorts members ws ts fields ps known) r inside (add sorts members ws ts fields ps known);
+        }
 
-  end-variables : n ≡ count (l .variables) → n ≤ i → CountingVariables l last n i s → CountsVariables l last s
-  end-variables there past so ws ts ds rules kept =
-      let few = few-variables l rules in
-      let p = counted-end (λ j. one ds (lastVariable j ds)) (λ j. length (variableRow l ds j)) n (omega arith) i s (so ws ts ds rules kept) past in
-      let x : sums (λ j. one ds (lastVariable j ds)) 0 n ≡ variableCount ds 0 (tablesOf l .variables) = ap (λ (m : ℕ). sums (λ j. one ds (lastVariable j ds)) 0 m) there ∙ sym (variables-counted l ds) in
-      let y : sums (λ j. length (variableRow l ds j)) 0 n ≡ length (variablesFrom ds 0 (tablesOf l .variables)) =
-      ap (λ (m : ℕ). sums (λ j. length (variableRow l ds j)) 0 m) there ∙ sym (length-texts (variableRow l ds) 0 (count (l .variables))) ∙ ap (λ (t : List ℕ). length t) (sym (variables-are l ds)) in
-      subst (λ (k : ℕ). Tallied k (length (variablesFrom ds 0 (tablesOf l .variables))) s) x (subst (λ (k : ℕ). Tallied (sums (λ j. one ds (lastVariable j ds)) 0 n) k s) y p)
-
-  step-function : n ≡ count (l .functions) → (node long size : ℕ) → i < n → node ≡ getD last ((i * 2 + 1) * 2) 0 → long ≡ getD last ((i * 2 + 1) * 2 + 1) 0 →
-      size ≡ capped (functionSize (l .names) (l .functions) i long) → CountingFunctions l last n i s → CountingFunctions l last n (i + 1) (added s node size)
-  step-function there node long size inside e f g so ws ts ds rules kept =
-      let few = few-functions l rules in
-      let h = held-function l ws ts ds last kept i (omega arith) in
-      let h′ = subst (λ (k : ℕ). HoldsFunction l ws ts i (lastFunction i ds) k (getD last ((i * 2 + 1) * 2 + 1) 0)) (sym e) h in
-      let h″ = subst (λ (k : ℕ). HoldsFunction l ws ts i (lastFunction i ds) node k) (sym f) h′ in
-      subst (λ (k : ℕ). Counted (λ j. one ds (lastFunction j ds)) (λ j. length (functionRow l ds j)) n (i + 1) (added s node k)) (sym g)
-      (counted-step (λ j. one ds (lastFunction j ds)) (λ j. length (functionRow l ds j)) n (omega arith) i s (so ws ts ds rules kept) node (functionSize (l .names) (l .functions) i long) inside
-      (counts-function l ws ts ds rules i node long (omega arith) (lastFunction i ds) h″))
-
-  end-functions : n ≡ count (l .functions) → n ≤ i → CountingFunctions l last n i s → CountsFunctions l last s
-  end-functions there past so ws ts ds rules kept =
-      let few = few-functions l rules in
-      let p = counted-end (λ j. one ds (lastFunction j ds)) (λ j. length (functionRow l ds j)) n (omega arith) i s (so ws ts ds rules kept) past in
-      let x : sums (λ j. one ds (lastFunction j ds)) 0 n ≡ functionCount ds 0 (tablesOf l .functions) = ap (λ (m : ℕ). sums (λ j. one ds (lastFunction j ds)) 0 m) there ∙ sym (functions-counted l ds) in
-      let y : sums (λ j. length (functionRow l ds j)) 0 n ≡ length (functionsFrom ds 0 (tablesOf l .functions)) =
-      ap (λ (m : ℕ). sums (λ j. length (functionRow l ds j)) 0 m) there ∙ sym (length-texts (functionRow l ds) 0 (count (l .functions))) ∙ ap (λ (t : List ℕ). length t) (sym (functions-are l ds)) in
-      subst (λ (k : ℕ). Tallied k (length (functionsFrom ds 0 (tablesOf l .functions))) s) x (subst (λ (k : ℕ). Tallied (sums (λ j. one ds (lastFunction j ds)) 0 n) k s) y p)
-
-module _ (rows names last : List ℕ) (n : ℕ) where
-  pub variables-start : n ≡ count rows → VariablesSofar rows names last n 0 (record { count = 0; need = 0 })
-  variables-start e = record { there = e; rest = λ sorts members fields functions ws ts ds rules kept. counted-start _ _ n }
-
-  pub functions-start : n ≡ count rows → FunctionsSofar rows names last n 0 (record { count = 0; need = 0 })
-  functions-start e = record { there = e; rest = λ sorts members fields variables ws ts ds rules kept. counted-start _ _ n }
-
-  module _ (i : ℕ) (s : Tally) where
-    pub variables-step : VariablesSofar rows names last n i s → (node long size : ℕ) → i < n → node ≡ getD last (i * 2 * 2) 0 → long ≡ getD last (i * 2 * 2 + 1) 0 →
-        size ≡ capped (variableSize names rows i long) → (next : Tally) → next ≡ added s node size → VariablesSofar rows names last n (i + 1) next
-    variables-step so node long size inside e f g next q =
-        subst (VariablesSofar rows names last n (i + 1)) (sym q)
-        (record { there = so .there; rest = λ sorts members fields functions. step-variable _ last n i s (so .there) node long size inside e f g (so .rest sorts members fields functions) })
-
-    pub variables-end : VariablesSofar rows names last n i s → n ≤ i → TalliesVariables rows names last s
-    variables-end so past sorts members fields functions = end-variables _ last n i s (so .there) past (so .rest sorts members fields functions)
-
-    pub functions-step : FunctionsSofar rows names last n i s → (node long size : ℕ) → i < n → node ≡ getD last ((i * 2 + 1) * 2) 0 → long ≡ getD last ((i * 2 + 1) * 2 + 1) 0 →
-        size ≡ capped (functionSize names rows i long) → (next : Tally) → next ≡ added s node size → FunctionsSofar rows names last n (i + 1) next
-    functions-step so node long size inside e f g next q =
-        subst (FunctionsSofar rows names last n (i + 1)) (sym q)
-        (record { there = so .there; rest = λ sorts members fields variables. step-function _ last n i s (so .there) node long size inside e f g (so .rest sorts members fields variables) })
-
-    pub functions-end : FunctionsSofar rows names last n i s → n ≤ i → TalliesFunctions rows names last s
-    functions-end so past sorts members fields variables = end-functions _ last n i s (so .there) past (so .rest sorts members fields variables)
+    pub tally-end : n ≤ i → Tallies variables functions names last s
+    tally-end past sorts members ws ts fields ps known = finish _ ws ts last n i s (so .there) ps known (so .rest sorts members ws ts fields ps known) past

@@ -3,8 +3,7 @@
 use mathlib.Core.Path.{_≡_, refl, sym, ap, ap₂, _∙_, subst}
 use mathlib.Core.Bool.{true, false, true≢false}
 use mathlib.Core.List.{List, _++_, map, append-assoc}
-use mathlib.Core.Option.{Option, none, some}
-use Prim.Native.Nat.{ℕ, zero, suc, min, _+_, _*_, _-_, _^_, _≤_, _<_}
+use Prim.Native.Nat.{ℕ, min, _+_, _*_, _-_, _^_, _≤_, _<_}
 use native.Mathlib.Omega.{arith}
 use lib.ListN.{length, take, drop, replicate, length-append}
 use lib.Seq.{drop-drop}
@@ -26,29 +25,34 @@ use Rattle.arena_check.specs.Checks.{Checks}
 use Rattle.decimals.specs.Decimal.{decimal}
 use Rattle.tables.specs.declared.check.Checked.{Checked as Tabled}
 use Rattle.tables.specs.Check.{passes, checked}
-use Rattle.tables.specs.Layout.{Lent, count, tablesOf, formed}
+use Rattle.tables.specs.Layout.{Lent, tablesOf, formed}
 use Rattle.tables.specs.Rules.{lawful}
 use Rattle.tables.proofs.Lawful.{passed-passes}
 use Rattle.shapes.specs.declared.look.Parts.{Parts}
 use Rattle.shapes.specs.Shape.{onApp}
 use Rattle.shapes.specs.Shows.{Standing, PartsAt}
-use Rattle.sorts.specs.Result.{Result, ok, refused}
-use Rattle.values.specs.Value.{Value}
+use Rattle.sorts.specs.Result.{Result, ok, refused, _>>=_}
 use Rattle.literals.specs.Answer.{capped}
 use Rattle.well_sorted.proofs.Sound.{sound-octets}
 use Rattle.value_text.specs.Laid.{Lays}
 use Rattle.value_text.specs.Wrote.{Wrote}
 use Rattle.value_text.proofs.Lays.{lays-then, lays-put, lays-as, wrote-front}
-use Rattle.model.specs.Model.{Table, Definition, lastVariable, lastFunction, readCommands, readModel}
-use Rattle.model.specs.Listing.{line, settled, one, variablesFrom, functionsFrom, variableCount, functionCount, rendered, listing, need}
+use Rattle.model.specs.Model.{Definition, readCommands, readModel}
+use Rattle.model.specs.Listing.{line, settled, variableCount, functionCount, rendered, listing, need}
 use Rattle.walk.specs.declared.walk.Walked.{Walked}
-use Rattle.walk.specs.Last.{slots, Kept}
-use Rattle.walk.specs.Walked.{Sure, WalkedAs, Walks}
+use Rattle.walk.specs.Last.{slots, stride}
+use Rattle.walk.specs.Placed.{Placed, its, placed}
+use Rattle.walk.specs.Walked.{WalkedAs, Walks}
+use Rattle.walk.proofs.Places.{placed-read}
 use Rattle.listing.specs.declared.tally.Tally.{Tally}
 use Rattle.listing.specs.Lists.{listed, fitted, left, Lists, bad-table, bad-arena, walked}
-use Rattle.listing.specs.Lines.{header, settledValue, settledOption, Tallied, LaysVariables, LaysFunctions, CountsVariables, CountsFunctions, Zeroed, FinishesOf, Commanded, Modelled, Stored}
-use Rattle.listing.proofs.Lasts.{settled-last-variable, settled-last-function}
-use Rattle.listing.proofs.Rows.{sums, variables-counted, functions-counted}
+use Rattle.listing.specs.Line.{header}
+use Rattle.listing.specs.Grounds.{Known}
+use Rattle.listing.specs.Entries.{entries, LaysEntries}
+use Rattle.listing.specs.Tally.{Tallied}
+use Rattle.listing.specs.Stages.{Sure, Zeroed, FinishesOf, Commanded, Modelled, Stored}
+use Rattle.listing.proofs.Readings.{commands-grounded}
+use Rattle.listing.proofs.Rows.{same-variables, same-functions}
 use Rattle.listing.proofs.Sizes.{header-small}
 
 -- zeros from a place up to another one
@@ -65,44 +69,13 @@ module _ (out : List ℕ) (start end : ℕ) where
       let m : part ≡ replicate (end - start) 0 = e ∙ ap (λ (n : ℕ). replicate n 0) (mid-len start end out b) in
       ap₂ (λ (x y : List ℕ). take start out ++ (x ++ y)) m (drop-drop (end - start) start out ∙ ap (λ (n : ℕ). drop n out) k)
 
--- settled definitions are as many
-sums-as : (g h : ℕ → ℕ) → ((j : ℕ) → g j ≡ h j) → (i n : ℕ) → sums g i n ≡ sums h i n
-unfolding sums
-sums-as g h e i zero = refl
-sums-as g h e i (suc n) = ap₂ (λ (a b : ℕ). a + b) (e i) (sums-as g h e (suc i) n)
-
-module _ (ds : List Definition) where
-  one-value : (o : Option Value) → one (map settled ds) (settledValue o) ≡ one ds o
-  one-value none = refl
-  one-value (some v) = refl
-
-  one-table : (o : Option Table) → one (map settled ds) (settledOption o) ≡ one ds o
-  one-table none = refl
-  one-table (some t) = refl
-
-  module _ (l : Lent) where
-    same-variables : variableCount ds 0 (tablesOf l .variables) ≡ variableCount (map settled ds) 0 (tablesOf l .variables)
-    same-variables =
-        variables-counted l ds
-        ∙ sums-as (λ j. one ds (lastVariable j ds)) (λ j. one (map settled ds) (lastVariable j (map settled ds)))
-        (λ j. sym (ap (λ (o : Option Value). one (map settled ds) o) (settled-last-variable j ds) ∙ one-value (lastVariable j ds))) 0 (count (l .variables))
-        ∙ sym (variables-counted l (map settled ds))
-
-    same-functions : functionCount ds 0 (tablesOf l .functions) ≡ functionCount (map settled ds) 0 (tablesOf l .functions)
-    same-functions =
-        functions-counted l ds
-        ∙ sums-as (λ j. one ds (lastFunction j ds)) (λ j. one (map settled ds) (lastFunction j (map settled ds)))
-        (λ j. sym (ap (λ (o : Option Table). one (map settled ds) o) (settled-last-function j ds) ∙ one-table (lastFunction j ds))) 0 (count (l .functions))
-        ∙ sym (functions-counted l (map settled ds))
-
--- a rendering in its three parts, the counts being given
+-- a rendering in its two parts, the counts being given
 module _ (l : Lent) (ds : List Definition) where
-  pub parts : (v f : ℕ) → v ≡ variableCount ds 0 (tablesOf l .variables) → f ≡ functionCount ds 0 (tablesOf l .functions) →
-      header v f ++ (variablesFrom ds 0 (tablesOf l .variables) ++ functionsFrom ds 0 (tablesOf l .functions)) ≡ rendered ds (tablesOf l)
+  pub parts : (v f : ℕ) → v ≡ variableCount ds 0 (tablesOf l .variables) → f ≡ functionCount ds 0 (tablesOf l .functions) → header v f ++ entries l ds ≡ rendered ds (tablesOf l)
   unfolding rendered
   parts v f p q =
-      ap₂ (λ (a b : ℕ). header a b ++ (variablesFrom ds 0 (tablesOf l .variables) ++ functionsFrom ds 0 (tablesOf l .functions))) p q
-      ∙ append-assoc (line "vars" (decimal (variableCount ds 0 (tablesOf l .variables)))) (line "funs" (decimal (functionCount ds 0 (tablesOf l .functions)))) (variablesFrom ds 0 (tablesOf l .variables) ++ functionsFrom ds 0 (tablesOf l .functions))
+      ap₂ (λ (a b : ℕ). header a b ++ entries l ds) p q
+      ∙ append-assoc (line "vars" (decimal (variableCount ds 0 (tablesOf l .variables)))) (line "funs" (decimal (functionCount ds 0 (tablesOf l .functions)))) (entries l ds)
 
 -- where there is room
 module _ (lines : List ℕ) (room : ℕ) (out : List ℕ) where
@@ -128,97 +101,99 @@ module _ (lines : List ℕ) (room : ℕ) (out : List ℕ) where
       (record { answers = ap Length n; holds = x ∙ ap₂ (λ (a b : List ℕ). a ++ b) y (ap₂ (λ (a b : List ℕ). a ++ b) v u) })
 
 -- what is noted
-module _ (l : Lent) (ws ts last out : List ℕ) (v f : Tally) (counts-v : CountsVariables l last v) (counts-f : CountsFunctions l last f) where
-  module _ (head half sum : ℕ) (e : head ≡ length (header (v .count) (f .count))) (g : half ≡ capped (head + v .need)) (h : sum ≡ capped (half + f .need)) where
-    module _ (ds : List Definition) (rules : lawful (tablesOf l) ≡ true) (kept : Kept l ws ts ds last) where
-      of-v : Tallied (variableCount ds 0 (tablesOf l .variables)) (length (variablesFrom ds 0 (tablesOf l .variables))) v
-      of-v = counts-v ws ts ds rules kept
-
-      of-f : Tallied (functionCount ds 0 (tablesOf l .functions)) (length (functionsFrom ds 0 (tablesOf l .functions))) f
-      of-f = counts-f ws ts ds rules kept
-
-      exact : sum ≡ need (tablesOf l) ds
+module _ (l : Lent) (ws ts last out : List ℕ) (s : Tally) (tallied : (ps : List Placed) → Known l ws ts last ps → Tallied l (its ps) s) where
+  module _ (head sum : ℕ) (e : head ≡ length (header (s .variables) (s .functions))) (h : sum ≡ capped (head + s .need)) where
+    module _ (ps : List Placed) (known : Known l ws ts last ps) where
+      exact : sum ≡ need (tablesOf l) (its ps)
       unfolding need
       exact =
-          let p = of-v in
-          let q = of-f in
-          let a = header-small (v .count) (f .count) in
-          let m : head + v .need + f .need < 2 ^ 62 = omega (arith, p .needs, p .small, q .needs, q .small) in
-          let s : sum ≡ head + v .need + f .need = summed head (v .need) (f .need) half sum g h m in
-          s ∙ long head (v .need) (f .need) (header (v .count) (f .count)) (variablesFrom ds 0 (tablesOf l .variables)) (functionsFrom ds 0 (tablesOf l .functions)) e (p .needs) (q .needs)
-          ∙ ap (λ (t : List ℕ). length t) (parts l ds (v .count) (f .count) (p .counts) (q .counts))
+          let p = tallied ps known in
+          let a = header-small (s .variables) (s .functions) in
+          summed head (s .need) sum h (omega (arith, p .small))
+          ∙ long head (s .need) (header (s .variables) (s .functions)) (entries l (its ps)) e (p .need)
+          ∙ ap (λ (t : List ℕ). length t) (parts l (its ps) (s .variables) (s .functions) (p .variables) (p .functions))
         where
-          summed : (a b c half sum : ℕ) → half ≡ min (a + b) 18446744073709551615 → sum ≡ min (half + c) 18446744073709551615 → a + b + c < 2 ^ 62 → sum ≡ a + b + c
-          summed a b c half sum g h m = omega arith
+          summed : (a b sum : ℕ) → sum ≡ min (a + b) 18446744073709551615 → a + b < 2 ^ 62 → sum ≡ a + b
+          summed a b sum h m = omega arith
 
-          long : (a b c : ℕ) (x y z : List ℕ) → a ≡ length x → b ≡ length y → c ≡ length z → a + b + c ≡ length (x ++ (y ++ z))
-          long a b c x y z p q r = omega (arith, length-append x (y ++ z), length-append y z)
+          long : (a b : ℕ) (x y : List ℕ) → a ≡ length x → b ≡ length y → a + b ≡ length (x ++ y)
+          long a b x y p q = omega (arith, length-append x y)
 
     pub finish-short : length out < sum → FinishesOf l ws ts last out (Refused (OutRoom sum)) out
-    finish-short k ds rules kept = short-room (listing (tablesOf l) ds) (need (tablesOf l) ds) out sum (exact ds rules kept) k
+    finish-short k ps known = short-room (listing (tablesOf l) (its ps)) (need (tablesOf l) (its ps)) out sum (exact ps known) k
 
-    module _ (b c d exit : List ℕ) (start middle end : ℕ) where
-      module _ (ds : List Definition) (rules : lawful (tablesOf l) ≡ true) (kept : Kept l ws ts ds last) where
-        all-laid : Offers out b 0 (header (v .count) (f .count)) start → LaysVariables l ws ts last b c start middle → LaysFunctions l ws ts last c d middle end →
-            Lays (rendered ds (tablesOf l)) (rendered (map settled ds) (tablesOf l)) out d 0 end
-        all-laid p q r =
-            let x = of-v ds rules kept in
-            let y = of-f ds rules kept in
-            lays-as (parts l ds (v .count) (f .count) (x .counts) (y .counts))
-            (parts l (map settled ds) (v .count) (f .count) (x .counts ∙ same-variables ds l) (y .counts ∙ same-functions ds l))
-            (lays-then (lays-put p) (lays-then (q ds rules kept) (r ds rules kept)))
+    module _ (b d exit : List ℕ) (start end : ℕ) where
+      module _ (ps : List Placed) (known : Known l ws ts last ps) where
+        all-laid : Offers out b 0 (header (s .variables) (s .functions)) start → LaysEntries l ws ts last b d start end → Lays (rendered (its ps) (tablesOf l)) (rendered (map settled (its ps)) (tablesOf l)) out d 0 end
+        all-laid p q =
+            let x = tallied ps known in
+            lays-as (parts l (its ps) (s .variables) (s .functions) (x .variables) (x .functions))
+            (parts l (map settled (its ps)) (s .variables) (s .functions) (x .variables ∙ same-variables l (its ps)) (x .functions ∙ same-functions l (its ps)))
+            (lays-then (lays-put p) (q ps known))
 
-        laid-whole : sum ≤ length out → Lays (rendered ds (tablesOf l)) (rendered (map settled ds) (tablesOf l)) out d 0 end → (Wrote (need (tablesOf l) ds) (listing (tablesOf l) ds) out d end) × (length d ≡ length out)
+        laid-whole : sum ≤ length out → Lays (rendered (its ps) (tablesOf l)) (rendered (map settled (its ps)) (tablesOf l)) out d 0 end → (Wrote (need (tablesOf l) (its ps)) (listing (tablesOf l) (its ps)) out d end) × (length d ≡ length out)
         unfolding need listing
         laid-whole k p =
-            let s = exact ds rules kept in
-            let n : length (rendered ds (tablesOf l)) ≤ length out = omega (arith, s, k) in
+            let z = exact ps known in
+            let n : length (rendered (its ps) (tablesOf l)) ≤ length out = omega (arith, z, k) in
             (wrote-front p n, p (omega (arith, n)) .same)
 
-      pub finish-written : sum ≤ length out → Offers out b 0 (header (v .count) (f .count)) start → LaysVariables l ws ts last b c start middle → LaysFunctions l ws ts last c d middle end → Zeroed d end sum exit →
+      pub finish-written : sum ≤ length out → Offers out b 0 (header (s .variables) (s .functions)) start → LaysEntries l ws ts last b d start end → Zeroed d end sum exit →
           FinishesOf l ws ts last out (Length end) exit
-      finish-written k p q r z ds rules kept =
-          let w = laid-whole ds rules kept k (all-laid ds rules kept p q r) in
-          enough-room (listing (tablesOf l) ds) (need (tablesOf l) ds) out sum end d exit (exact ds rules kept) k (w .1) (w .0) z
+      finish-written k p q z ps known =
+          let w = laid-whole ps known k (all-laid ps known p q) in
+          enough-room (listing (tablesOf l) (its ps)) (need (tablesOf l) (its ps)) out sum end d exit (exact ps known) k (w .1) (w .0) z
 
 -- the commands
 module _ (l : Lent) (ws ts : List ℕ) (many : ℕ) (last last′ entry : List ℕ) (w : Walked) (walks : Walks l ws ts 1 many last last′ w) where
+  -- what is left by the commands, by what they define with their nodes
+  commands-left : (us : Trees) (m : Result (List Placed)) → placed (tablesOf l) 1 us ≡ m → (r : Written) (exit : List ℕ) →
+      Leaves (left (tablesOf l) (m >>= λ ps. ok (its ps)) entry) r exit → Leaves (left (tablesOf l) (readCommands (tablesOf l) us) entry) r exit
+  commands-left us m e r exit h =
+      subst (λ (x : Result (List Definition)). Leaves (left (tablesOf l) x entry) r exit) (sym (ap (λ (x : Result (List Placed)). x >>= λ ps. ok (its ps)) e) ∙ placed-read (tablesOf l) 1 us) h
+
   pub commands-done : w ≡ Walked.Done → (r : Written) (exit : List ℕ) → FinishesOf l ws ts last′ entry r exit → Commanded l ws ts many last entry r exit
-  commands-done e r exit f us s sure q = go (readCommands (tablesOf l) us) (walks us s (omega arith) sure q)
+  unfolding _>>=_
+  commands-done e r exit f us s sure q = go (placed (tablesOf l) 1 us) refl (walks us s (sure .rules) q)
     where
-      go : (m : Result (List Definition)) → WalkedAs l ws ts m last′ w → Leaves (left (tablesOf l) m entry) r exit
-      go (ok ds) h = f ds (sure .rules) (h .1)
-      go (refused z) h = let g : Walked.Done ≡ Walked.Refused z = sym e ∙ h in let c : _≡_ {A = ℕ} 0 1 = cc in absurd (omega arith)
+      go : (m : Result (List Placed)) → placed (tablesOf l) 1 us ≡ m → WalkedAs l m last′ w → Leaves (left (tablesOf l) (readCommands (tablesOf l) us) entry) r exit
+      go (ok ps) z h = commands-left us (ok ps) z r exit (f ps (record { rules = sure .rules; kept = h .1; grounded = commands-grounded l ws ts us many s sure ps z }))
+      go (refused y) z h = let g : Walked.Done ≡ Walked.Refused y = sym e ∙ h in let c : _≡_ {A = ℕ} 0 1 = cc in absurd (omega arith)
 
   pub commands-refused : (z : Refusal) → w ≡ Walked.Refused z → Commanded l ws ts many last entry (Refused z) entry
-  commands-refused z e us s sure q = go (readCommands (tablesOf l) us) (walks us s (omega arith) sure q)
+  unfolding _>>=_
+  commands-refused z e us s sure q = go (placed (tablesOf l) 1 us) refl (walks us s (sure .rules) q)
     where
-      go : (m : Result (List Definition)) → WalkedAs l ws ts m last′ w → Leaves (left (tablesOf l) m entry) (Refused z) entry
-      go (ok ds) h = let g : Walked.Done ≡ Walked.Refused z = sym (h .0) ∙ e in let c : _≡_ {A = ℕ} 0 1 = cc in absurd (omega arith)
-      go (refused y) h = let g : Walked.Refused z ≡ Walked.Refused y = sym e ∙ h in let k : z ≡ y = cc in record { answers = ap Refused k; holds = refl }
+      go : (m : Result (List Placed)) → placed (tablesOf l) 1 us ≡ m → WalkedAs l m last′ w → Leaves (left (tablesOf l) (readCommands (tablesOf l) us) entry) (Refused z) entry
+      go (ok ps) x h = let g : Walked.Done ≡ Walked.Refused z = sym (h .0) ∙ e in let c : _≡_ {A = ℕ} 0 1 = cc in absurd (omega arith)
+      go (refused y) x h =
+          let g : Walked.Refused z ≡ Walked.Refused y = sym e ∙ h in
+          let k : z ≡ y = cc in
+          commands-left us (refused y) x (Refused z) entry (record { answers = ap Refused k; holds = refl })
 
 -- the root
 pub passes-rules : (l : Lent) → passes l ≡ true → lawful (tablesOf l) ≡ true
 unfolding passes
 passes-rules l e = both-right (formed l) (lawful (tablesOf l)) e
 
-module _ (l : Lent) (ws ts last entry : List ℕ) (list : Parts) (found : PartsAt ws 0 list) where
+module _ (l : Lent) (ws ts : List ℕ) where
   stood : (t : Tree) → Arena ws ts t → Standing t ws ts 0
   stood t a = record { next = nodes t; from = 0; rest = length (text t); there = arena-stands ws ts t a }
 
-  sure-of : (us : Trees) → passes l ≡ true → Arena ws ts (app us) → Sure l us
+  pub sure-of : (us : Trees) → passes l ≡ true → Arena ws ts (app us) → Sure l us
   sure-of us p a = record { rules = passes-rules l p; octets = sound-octets (app us) (a .sound); few = omega (arith, a .few); short = a .short }
 
+module _ (l : Lent) (ws ts last entry : List ℕ) (list : Parts) (found : PartsAt ws 0 list) where
   of-app : (us : Trees) (r : Written) (exit : List ℕ) → Leaves (left (tablesOf l) (readCommands (tablesOf l) us) entry) r exit → Leaves (left (tablesOf l) (readModel (tablesOf l) (app us)) entry) r exit
   unfolding readModel
   of-app us r exit h = h
 
   pub model-listed : (many : ℕ) → list ≡ Parts.Children many → (r : Written) (exit : List ℕ) → Commanded l ws ts many last entry r exit → Modelled l ws ts last entry r exit
   model-listed many e r exit f t p a q =
-      let k = subst (PartsAt ws 0) e found .1 ts t (stood t a) in
+      let k = subst (PartsAt ws 0) e found .1 ts t (stood l ws ts t a) in
       let g : t ≡ app (k .0) = k .1 in
       subst (λ (x : Tree). Leaves (left (tablesOf l) (readModel (tablesOf l) x) entry) r exit) (sym g)
-      (of-app (k .0) r exit (f (k .0) (k .2) (sure-of (k .0) p (subst (λ (x : Tree). Arena ws ts x) g a)) q))
+      (of-app (k .0) r exit (f (k .0) (k .2) (sure-of l ws ts (k .0) p (subst (λ (x : Tree). Arena ws ts x) g a)) q))
 
   no-list : (t : Tree) → onApp t false (λ us. true) ≡ false → readModel (tablesOf l) t ≡ refused UnexpectedModel
   unfolding readModel
@@ -230,7 +205,7 @@ module _ (l : Lent) (ws ts last entry : List ℕ) (list : Parts) (found : PartsA
 
   pub model-no-list : list ≡ Parts.NoList → Modelled l ws ts last entry (Refused UnexpectedModel) entry
   model-no-list e t p a q =
-      subst (λ (m : Result (List Definition)). Leaves (left (tablesOf l) m entry) (Refused UnexpectedModel) entry) (sym (no-list t (subst (PartsAt ws 0) e found ts t (stood t a))))
+      subst (λ (m : Result (List Definition)). Leaves (left (tablesOf l) m entry) (Refused UnexpectedModel) entry) (sym (no-list t (subst (PartsAt ws 0) e found ts t (stood l ws ts t a))))
       (leaves-refused UnexpectedModel entry)
 
 -- the arena, and the tables
@@ -242,7 +217,7 @@ module _ (l : Lent) (ws ts last entry : List ℕ) (c : Checked) (checks : Checks
   stored-refused z e p q = bad-arena p (checks .refused z e) (leaves-refused BadArena entry)
 
 module _ (l : Lent) (ws ts entry : List ℕ) (c : Tabled) (e : c ≡ checked l) where
-  pub tables-passed : c ≡ Tabled.Passed → (last : List ℕ) → last ≡ replicate (slots * 2) 0 → (r : Written) (exit : List ℕ) → Stored l ws ts last entry r exit → Lists l ws ts entry r exit
+  pub tables-passed : c ≡ Tabled.Passed → (last : List ℕ) → last ≡ replicate (slots * stride) 0 → (r : Written) (exit : List ℕ) → Stored l ws ts last entry r exit → Lists l ws ts entry r exit
   tables-passed g last q r exit f = f (passed-passes l (sym e ∙ g)) q
 
   pub tables-refused : (z : Refusal) → c ≡ Tabled.Refused z → Lists l ws ts entry (Refused BadTable) entry

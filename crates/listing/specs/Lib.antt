@@ -1,2 +1,7 @@
 pub mod Lists
-pub mod Lines
+pub mod Line
+pub mod Grounds
+pub mod Entries
+pub mod Tally
+pub mod Stages
+pub mod Examples

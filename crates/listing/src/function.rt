@@ -1,14 +1,12 @@
-// The lines of functions: of each row that a command defines, in table order.
+// A function's lines.
 use crate::line::write_line;
 use crate::line::write_number_line;
-use crate::noted::noted;
 use arms::write_table;
 use commands::CommandFound;
 use commands::command_at;
 use tables::clamp;
-use tables::count;
 use tables::word;
-ghost use Rattle.listing.specs.Lines.{WritesBody, WritesFunction, WritesLastFunction, WritesFunctions};
+ghost use Rattle.listing.specs.Entries.{WritesBody, WritesFunction};
 
 // A row's first three lines and its table's, the body at a node and the argument's text told.
 fn write_table_lines(
@@ -20,13 +18,13 @@ fn write_table_lines(
     text: &[u8],
     row: usize,
     offset: u64,
-    length: u64,
+    size: u64,
     body: usize,
     scratch: &mut [u8],
     out: &mut [u8],
     place: usize,
 ) -> usize
-    ensures { λ r. ⌜ WritesBody (now (sorts .entry)) (now (functions .entry)) (now (members .entry)) (now (names .entry)) (now (nodes .entry)) (now (text .entry)) row offset length body (now (out .entry)) (now (out .exit)) place r ⌝ }
+    ensures { λ r. ⌜ WritesBody (now (sorts .entry)) (now (functions .entry)) (now (members .entry)) (now (names .entry)) (now (nodes .entry)) (now (text .entry)) row offset size body (now (out .entry)) (now (out .exit)) place r ⌝ }
 {
     let range = clamp(
         word(functions, row, 0),
@@ -45,7 +43,7 @@ fn write_table_lines(
         nodes,
         text,
         offset,
-        length,
+        size,
         body,
         scratch,
         out,
@@ -54,7 +52,7 @@ fn write_table_lines(
 }
 
 // The same by the node of the command that defines the row.
-fn write_function(
+pub fn write_function(
     sorts: &[u64],
     functions: &[u64],
     members: &[u64],
@@ -72,13 +70,13 @@ fn write_function(
     let command = command_at(nodes, text, node);
     match command {
         CommandFound::Variable {
-            length: _,
+            size: _,
             offset: _,
             sort: _,
             value: _,
         } => place,
         CommandFound::Function {
-            length: _,
+            size: _,
             offset: _,
             arg_length,
             arg_offset,
@@ -100,78 +98,6 @@ fn write_function(
             out,
             place,
         ),
-        CommandFound::Misshapen => place,
+        CommandFound::Refused(_) => place,
     }
-}
-
-// The same where a command is noted for the row.
-fn write_last_function(
-    sorts: &[u64],
-    functions: &[u64],
-    members: &[u64],
-    names: &[u8],
-    nodes: &[u64],
-    text: &[u8],
-    row: usize,
-    node: usize,
-    scratch: &mut [u8],
-    out: &mut [u8],
-    place: usize,
-) -> usize
-    ensures { λ r. ⌜ WritesLastFunction (now (sorts .entry)) (now (functions .entry)) (now (members .entry)) (now (names .entry)) (now (nodes .entry)) (now (text .entry)) row node (now (out .entry)) (now (out .exit)) place r ⌝ }
-{
-    if node == 0 {
-        return place;
-    }
-    write_function(
-        sorts,
-        functions,
-        members,
-        names,
-        nodes,
-        text,
-        row,
-        node,
-        scratch,
-        out,
-        place,
-    )
-}
-
-pub fn write_functions(
-    sorts: &[u64],
-    functions: &[u64],
-    members: &[u64],
-    names: &[u8],
-    nodes: &[u64],
-    text: &[u8],
-    last: &[usize],
-    scratch: &mut [u8],
-    out: &mut [u8],
-    place: usize,
-) -> usize
-    ensures { λ r. ⌜ WritesFunctions (now (sorts .entry)) (now (functions .entry)) (now (members .entry)) (now (names .entry)) (now (nodes .entry)) (now (text .entry)) (now (last .entry)) (now (out .entry)) (now (out .exit)) place r ⌝ }
-{
-    let rows = count(functions);
-    let mut to = place;
-    let mut row = 0;
-    while row < rows {
-        let slot = row * 2 + 1;
-        let node = noted(last, slot * 2);
-        to = write_last_function(
-            sorts,
-            functions,
-            members,
-            names,
-            nodes,
-            text,
-            row,
-            node,
-            scratch,
-            out,
-            to,
-        );
-        row += 1;
-    }
-    to
 }

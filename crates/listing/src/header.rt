@@ -4,7 +4,7 @@ use decimals::digit_count;
 ghost use mathlib.Core.Path.{_≡_};
 ghost use lib.ListN.{length};
 ghost use Rattle.lent.specs.Put.{Offers};
-ghost use Rattle.listing.specs.Lines.{header};
+ghost use Rattle.listing.specs.Line.{header};
 
 // `vars=`, `funs=` and two line ends.
 const HEADER: usize = 12;

@@ -3,7 +3,7 @@ use lent::put;
 use value_text::write_number;
 ghost use Rattle.lent.specs.Put.{Offers};
 ghost use Rattle.decimals.specs.Decimal.{decimal};
-ghost use Rattle.listing.specs.Lines.{lineOf};
+ghost use Rattle.listing.specs.Line.{lineOf};
 
 pub fn write_line(label: &[u8], piece: &[u8], out: &mut [u8], at: usize) -> usize
     ensures { λ r. ⌜ Offers (now (out .entry)) (now (out .exit)) at (lineOf (now (label .entry)) (now (piece .entry))) r ⌝ }

@@ -1,10 +1,8 @@
 // The public call: the tables are checked, then the arena, then the commands are walked, and then the room is looked at.
-use crate::function::write_functions;
+use crate::entry::write_entries;
 use crate::header::header_need;
 use crate::header::write_header;
-use crate::tally::tally_functions;
-use crate::tally::tally_variables;
-use crate::variable::write_variables;
+use crate::tally::tally_entries;
 use arena_check::Checked as Arena;
 use arena_check::check_arena;
 use lent::Written;
@@ -15,10 +13,11 @@ use shapes::Parts;
 use shapes::list_at;
 use tables::Checked;
 use tables::check_tables;
+use walk::WORDS;
 use walk::Walked;
 use walk::walk_commands;
 ghost use Rattle.listing.specs.Lists.{Lists};
-ghost use Rattle.listing.specs.Lines.{Zeroed, Finishes, Commanded, Modelled, Stored};
+ghost use Rattle.listing.specs.Stages.{Zeroed, Finishes, Commanded, Modelled, Stored};
 
 // Zeros from a place up to another one.
 fn clear_between(out: &mut [u8], start: usize, end: usize)
@@ -48,28 +47,16 @@ fn list_noted(
 ) -> Written
     ensures { λ r. ⌜ Finishes (now (sorts .entry)) (now (variables .entry)) (now (functions .entry)) (now (members .entry)) (now (names .entry)) (now (nodes .entry)) (now (text .entry)) (now (last .entry)) (now (out .entry)) r (now (out .exit)) ⌝ }
 {
-    let one = tally_variables(variables, names, last);
-    let two = tally_functions(functions, names, last);
-    let head = header_need(one.count, two.count);
-    let need = plus(plus(head, one.need), two.need);
+    let tally = tally_entries(variables, functions, names, last);
+    let head = header_need(tally.variables, tally.functions);
+    let need = plus(head, tally.need);
     if out.len() < need {
         return Written::Refused(Refusal::OutRoom(need));
     }
-    let start = write_header(one.count, two.count, out);
-    let middle = write_variables(
+    let start = write_header(tally.variables, tally.functions, out);
+    let end = write_entries(
         sorts,
         variables,
-        members,
-        names,
-        nodes,
-        text,
-        last,
-        scratch,
-        out,
-        start,
-    );
-    let end = write_functions(
-        sorts,
         functions,
         members,
         names,
@@ -78,7 +65,7 @@ fn list_noted(
         last,
         scratch,
         out,
-        middle,
+        start,
     );
     clear_between(out, end, need);
     Written::Length(end)
@@ -216,7 +203,7 @@ pub fn list_model(
 ) -> Written
     ensures { λ r. ⌜ Lists (record { sorts = now (sorts .entry); fields = now (fields .entry); variables = now (variables .entry); functions = now (functions .entry); members = now (members .entry); names = now (names .entry) }) (now (nodes .entry)) (now (text .entry)) (now (out .entry)) r (now (out .exit)) ⌝ }
 {
-    let mut last: [usize; 4096] = [0; 4096];
+    let mut last: [usize; WORDS] = [0; WORDS];
     let mut scratch: [u8; 65536] = [0; 65536];
     let tabled = check_tables(sorts, fields, variables, functions, members, names);
     match tabled {

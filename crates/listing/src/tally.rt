@@ -1,30 +1,20 @@
 // How many names are defined, and how long their lines are with repeats kept.
-use crate::noted::noted;
 use decimals::digit_count;
 use literals::plus;
 use tables::clamp;
 use tables::count;
 use tables::word;
+use walk::NEED;
+use walk::NODE;
+use walk::noted;
 ghost use mathlib.Core.Path.{_≡_};
 ghost use Rattle.literals.specs.Answer.{capped};
-ghost use Rattle.listing.specs.Lines.{variableSize, functionSize, added, TalliesVariables, TalliesFunctions};
+ghost use Rattle.listing.specs.Tally.{variableSize, functionSize, AddsEntry, Tallies};
 
 pub struct Tally {
-    pub count: usize,
+    pub variables: usize,
+    pub functions: usize,
     pub need: usize,
-}
-
-// One more name where a command defines it.
-fn added(tally: Tally, node: usize, need: usize) -> Tally
-    ensures { λ r. ⌜ r ≡ added tally node need ⌝ }
-{
-    if node == 0 {
-        return tally;
-    }
-    Tally {
-        count: plus(tally.count, 1),
-        need: plus(tally.need, need),
-    }
 }
 
 // `var=`, `sort=`, `value=` and three line ends.
@@ -62,36 +52,53 @@ fn function_need(functions: &[u64], names: &[u8], row: usize, long: usize) -> us
     plus(plus(plus(plus(name, argument), result), FUNCTION), long)
 }
 
-pub fn tally_variables(variables: &[u64], names: &[u8], last: &[usize]) -> Tally
-    ensures { λ r. ⌜ TalliesVariables (now (variables .entry)) (now (names .entry)) (now (last .entry)) r ⌝ }
+// One slot more, where a command is noted for it.
+fn add_entry(
+    variables: &[u64],
+    functions: &[u64],
+    names: &[u8],
+    last: &[usize],
+    slot: usize,
+    tally: Tally,
+) -> Tally
+    ensures { λ r. ⌜ AddsEntry (now (variables .entry)) (now (functions .entry)) (now (names .entry)) (now (last .entry)) slot tally r ⌝ }
 {
-    let rows = count(variables);
-    let mut tally = Tally { count: 0, need: 0 };
-    let mut i = 0;
-    while i < rows {
-        let slot = i * 2;
-        let node = noted(last, slot * 2);
-        let long = noted(last, slot * 2 + 1);
-        let need = variable_need(variables, names, i, long);
-        tally = added(tally, node, need);
-        i += 1;
+    let node = noted(last, slot, NODE);
+    if node == 0 {
+        return tally;
     }
-    tally
+    let long = noted(last, slot, NEED);
+    let rows = count(variables);
+    if slot < rows {
+        let size = variable_need(variables, names, slot, long);
+        return Tally {
+            variables: plus(tally.variables, 1),
+            functions: tally.functions,
+            need: plus(tally.need, size),
+        };
+    }
+    let row = slot - rows;
+    let size = function_need(functions, names, row, long);
+    Tally {
+        variables: tally.variables,
+        functions: plus(tally.functions, 1),
+        need: plus(tally.need, size),
+    }
 }
 
-pub fn tally_functions(functions: &[u64], names: &[u8], last: &[usize]) -> Tally
-    ensures { λ r. ⌜ TalliesFunctions (now (functions .entry)) (now (names .entry)) (now (last .entry)) r ⌝ }
+pub fn tally_entries(variables: &[u64], functions: &[u64], names: &[u8], last: &[usize]) -> Tally
+    ensures { λ r. ⌜ Tallies (now (variables .entry)) (now (functions .entry)) (now (names .entry)) (now (last .entry)) r ⌝ }
 {
-    let rows = count(functions);
-    let mut tally = Tally { count: 0, need: 0 };
-    let mut i = 0;
-    while i < rows {
-        let slot = i * 2 + 1;
-        let node = noted(last, slot * 2);
-        let long = noted(last, slot * 2 + 1);
-        let need = function_need(functions, names, i, long);
-        tally = added(tally, node, need);
-        i += 1;
+    let rows = count(variables) + count(functions);
+    let mut tally = Tally {
+        variables: 0,
+        functions: 0,
+        need: 0,
+    };
+    let mut slot = 0;
+    while slot < rows {
+        tally = add_entry(variables, functions, names, last, slot, tally);
+        slot += 1;
     }
     tally
 }

@@ -4,88 +4,128 @@ use mathlib.Core.Path.{_≡_, refl, sym, ap, _∙_, subst}
 use mathlib.Core.Bool.{Bool, true, false, cond}
 use mathlib.Core.List.{List, [], _∷_, _++_}
 use mathlib.Core.Option.{Option, none, some}
-use Prim.Native.Nat.{ℕ, _+_, _*_, _<_}
+use Prim.Native.Nat.{ℕ, _+_, _*_, _-_, _/_, _≤_, _<_}
 use native.Mathlib.Omega.{arith}
 use lib.Dec.{eqb}
-use lib.ListN.{length, getD, set, replicate, length-set, length-replicate, getD-replicate}
+use lib.ListN.{length, set, replicate, length-set, length-replicate, getD-replicate, List·getD-eq-default}
 use lib.Seq.{getD-set-same, getD-set-other}
 use borrow.Author.Tests.{eqb-true, eqb-false}
 use Rattle.ground.proofs.Tests.{by-test}
 use Rattle.tables.specs.Layout.{Lent}
-use Rattle.model.specs.Model.{Definition, orElse}
+use Rattle.literals.specs.Answer.{capped}
+use Rattle.model.specs.Model.{orElse}
 use Rattle.model.proofs.Choices.{or-none, or-assoc}
-use Rattle.walk.specs.Noted.{slot}
-use Rattle.walk.specs.Last.{slots, lastIn, kept, Defined, Holds, Kept}
+use Rattle.walk.specs.Noted.{slot, size}
+use Rattle.walk.specs.Placed.{Placed}
+use Rattle.walk.specs.Last.{slots, stride, nodeWord, valueWord, needWord, wordAt, lastIn, kept, Holds, Kept}
 
-last-append : (k : ℕ) (ds es : List Definition) → lastIn k (ds ++ es) ≡ orElse (lastIn k es) (lastIn k ds)
-unfolding lastIn
-last-append k [] es = sym (or-none _)
-last-append k (d ∷ ds) es =
-    ap (λ (o : Option Definition). orElse o (cond (eqb k (slot d)) (some d) none)) (last-append k ds es)
-    ∙ or-assoc (lastIn k es) (lastIn k ds) (cond (eqb k (slot d)) (some d) none)
+-- a word past the words
+module _ (last : List ℕ) (k j : ℕ) where
+  pub word-past : length last / stride < k → 0 ≡ wordAt last k j
+  word-past h = sym (List·getD-eq-default last 0 (omega arith))
 
-last-one : (k : ℕ) (d : Definition) → lastIn k (d ∷ []) ≡ cond (eqb k (slot d)) (some d) none
-unfolding lastIn
-last-one k d = refl
+  pub word-short : length last - k * stride ≤ j → 0 ≡ wordAt last k j
+  word-short h = sym (List·getD-eq-default last 0 (omega arith))
 
-last-same : (k : ℕ) (ds : List Definition) (d : Definition) → eqb k (slot d) ≡ true → lastIn k (ds ++ (d ∷ [])) ≡ some d
-last-same k ds d h =
-    last-append k ds (d ∷ []) ∙ ap (λ (o : Option Definition). orElse o (lastIn k ds)) (last-one k d ∙ ap (λ (b : Bool). cond b (some d) none) h)
-
-last-other : (k : ℕ) (ds : List Definition) (d : Definition) → eqb k (slot d) ≡ false → lastIn k (ds ++ (d ∷ [])) ≡ lastIn k ds
-last-other k ds d h =
-    last-append k ds (d ∷ []) ∙ ap (λ (o : Option Definition). orElse o (lastIn k ds)) (last-one k d ∙ ap (λ (b : Bool). cond b (some d) none) h)
-
--- the two words of the slot, and the words of the others
-module _ (last : List ℕ) (k node long : ℕ) (h : k * 2 + 1 < length last) where
-  kept-node : getD (kept last k node long) (k * 2) 0 ≡ node
-  kept-node =
-      getD-set-other (set last (k * 2) node) (k * 2 + 1) (k * 2) long 0 (λ e. omega arith)
-      ∙ getD-set-same last (k * 2) node 0 (omega arith)
-
-  kept-long : getD (kept last k node long) (k * 2 + 1) 0 ≡ long
-  kept-long = getD-set-same (set last (k * 2) node) (k * 2 + 1) long 0 (omega (arith, length-set last (k * 2) node))
-
-  kept-other : (j : ℕ) → (j ≡ k * 2 → ⊥) → (j ≡ k * 2 + 1 → ⊥) → getD (kept last k node long) j 0 ≡ getD last j 0
-  kept-other j p q = getD-set-other (set last (k * 2) node) (k * 2 + 1) j long 0 q ∙ getD-set-other last (k * 2) j node 0 p
-
-  kept-length : length (kept last k node long) ≡ length last
-  kept-length = length-set (set last (k * 2) node) (k * 2 + 1) long ∙ length-set last (k * 2) node
-
-module _ (l : Lent) (ws ts : List ℕ) where
-  kept-from : (n : ℕ) → n ≡ slots * 2 → Kept l ws ts [] (replicate n 0)
+module _ (l : Lent) (k : ℕ) where
+  last-append : (ps qs : List Placed) → lastIn l k (ps ++ qs) ≡ orElse (lastIn l k qs) (lastIn l k ps)
   unfolding lastIn
-  kept-from n e = record { full = length-replicate n 0 ∙ e; holds = λ k h. getD-replicate n (k * 2) 0 0 (omega arith) }
+  last-append [] qs = sym (or-none _)
+  last-append (p ∷ ps) qs =
+      ap (λ (o : Option Placed). orElse o (cond (eqb k (slot l (p .it))) (some p) none)) (last-append ps qs)
+      ∙ or-assoc (lastIn l k qs) (lastIn l k ps) (cond (eqb k (slot l (p .it))) (some p) none)
 
-  pub kept-none : (last : List ℕ) → last ≡ replicate (slots * 2) 0 → Kept l ws ts [] last
-  kept-none last e = subst (Kept l ws ts []) (sym e) (kept-from (slots * 2) refl)
+  last-one : (p : Placed) → lastIn l k (p ∷ []) ≡ cond (eqb k (slot l (p .it))) (some p) none
+  unfolding lastIn
+  last-one p = refl
 
-  module _ (ds : List Definition) (last : List ℕ) (h : Kept l ws ts ds last) (d : Definition) (node long : ℕ) (p : slot d < slots) (g : Defined l ws ts d node long) where
-    roomy : slot d * 2 + 1 < length last
-    roomy = omega (arith, h .full, p)
+  -- one more, whose name has this slot or another one
+  last-more : (ps : List Placed) (p : Placed) (b : Bool) → eqb k (slot l (p .it)) ≡ b → lastIn l k (ps ++ (p ∷ [])) ≡ orElse (cond b (some p) none) (lastIn l k ps)
+  last-more ps p b h =
+      last-append ps (p ∷ []) ∙ ap (λ (o : Option Placed). orElse o (lastIn l k ps)) (last-one p ∙ ap (λ (c : Bool). cond c (some p) none) h)
 
-    abbrev Held : ℕ → Option Definition → Type 0
-    Held k o = Holds l ws ts o (getD (kept last (slot d) node long) (k * 2) 0) (getD (kept last (slot d) node long) (k * 2 + 1) 0)
+-- the three words of the slot, and the words of the others
+module _ (last : List ℕ) (k node value long : ℕ) (h : k * stride + needWord < length last) where
+  abbrev One : List ℕ
+  One = set last (k * stride + nodeWord) node
 
-    held-same : (k : ℕ) → k ≡ slot d → Held k (some d)
+  abbrev Two : List ℕ
+  Two = set One (k * stride + valueWord) value
+
+  two-length : length Two ≡ length last
+  two-length = length-set One (k * stride + valueWord) value ∙ length-set last (k * stride + nodeWord) node
+
+  kept-length : length (kept last k node value long) ≡ length last
+  kept-length = length-set Two (k * stride + needWord) long ∙ two-length
+
+  kept-node : wordAt (kept last k node value long) k nodeWord ≡ node
+  kept-node =
+      getD-set-other Two (k * stride + needWord) (k * stride + nodeWord) long 0 (λ e. omega arith)
+      ∙ getD-set-other One (k * stride + valueWord) (k * stride + nodeWord) value 0 (λ e. omega arith)
+      ∙ getD-set-same last (k * stride + nodeWord) node 0 (omega arith)
+
+  kept-value : wordAt (kept last k node value long) k valueWord ≡ value
+  kept-value =
+      getD-set-other Two (k * stride + needWord) (k * stride + valueWord) long 0 (λ e. omega arith)
+      ∙ getD-set-same One (k * stride + valueWord) value 0 (omega (arith, length-set last (k * stride + nodeWord) node))
+
+  kept-long : wordAt (kept last k node value long) k needWord ≡ long
+  kept-long = getD-set-same Two (k * stride + needWord) long 0 (omega (arith, two-length))
+
+  kept-other : (i j : ℕ) → j < stride → (i ≡ k → ⊥) → wordAt (kept last k node value long) i j ≡ wordAt last i j
+  kept-other i j b p =
+      getD-set-other Two (k * stride + needWord) (i * stride + j) long 0 (λ e. p (omega arith))
+      ∙ getD-set-other One (k * stride + valueWord) (i * stride + j) value 0 (λ e. p (omega arith))
+      ∙ getD-set-other last (k * stride + nodeWord) (i * stride + j) node 0 (λ e. p (omega arith))
+
+module _ (l : Lent) where
+  -- what a slot holds, by its words
+  abbrev HeldAs : Option Placed → List ℕ → ℕ → Type 0
+  HeldAs o last k = Holds o (wordAt last k nodeWord) (wordAt last k valueWord) (wordAt last k needWord)
+
+  held-as : (o : Option Placed) (node value long node′ value′ long′ : ℕ) → node ≡ node′ → value ≡ value′ → long ≡ long′ → Holds o node′ value′ long′ → Holds o node value long
+  held-as none node value long node′ value′ long′ p q r h = (p ∙ h .0, q ∙ h .1, r ∙ h .2)
+  held-as (some x) node value long node′ value′ long′ p q r h = record { node-is = p ∙ h .node-is; value-is = q ∙ h .value-is; long-is = r ∙ h .long-is }
+
+  kept-from : (n : ℕ) → n ≡ slots * stride → Kept l [] (replicate n 0)
+  unfolding lastIn
+  kept-from n e =
+      record {
+        full = length-replicate n 0 ∙ e;
+        holds = λ k h.
+            (getD-replicate n (k * stride + nodeWord) 0 0 (omega arith), getD-replicate n (k * stride + valueWord) 0 0 (omega arith), getD-replicate n (k * stride + needWord) 0 0 (omega arith));
+      }
+
+  pub kept-none : (last : List ℕ) → last ≡ replicate (slots * stride) 0 → Kept l [] last
+  kept-none last e = subst (Kept l []) (sym e) (kept-from (slots * stride) refl)
+
+  module _ (ps : List Placed) (last : List ℕ) (h : Kept l ps last) (p : Placed) (low : slot l (p .it) < slots) where
+    abbrev Next : List ℕ
+    Next = kept last (slot l (p .it)) (p .node) (p .value) (capped (size (p .it)))
+
+    roomy : slot l (p .it) * stride + needWord < length last
+    roomy = omega (arith, h .full, low)
+
+    held-same : (k : ℕ) → k ≡ slot l (p .it) → HeldAs (some p) Next k
     held-same k e =
-        subst (λ (j : ℕ). Held j (some d)) (sym e)
-        (subst (λ (x : ℕ). Defined l ws ts d x (getD (kept last (slot d) node long) (slot d * 2 + 1) 0)) (sym (kept-node last (slot d) node long roomy))
-        (subst (λ (y : ℕ). Defined l ws ts d node y) (sym (kept-long last (slot d) node long roomy)) g))
+        subst (λ (j : ℕ). HeldAs (some p) Next j) (sym e)
+        (record {
+          node-is = kept-node last (slot l (p .it)) (p .node) (p .value) (capped (size (p .it))) roomy;
+          value-is = kept-value last (slot l (p .it)) (p .node) (p .value) (capped (size (p .it))) roomy;
+          long-is = kept-long last (slot l (p .it)) (p .node) (p .value) (capped (size (p .it))) roomy;
+        })
 
-    held-other : (k : ℕ) → k < slots → (k ≡ slot d → ⊥) → Held k (lastIn k ds)
+    held-other : (k : ℕ) → k < slots → (k ≡ slot l (p .it) → ⊥) → HeldAs (lastIn l k ps) Next k
     held-other k i e =
-        subst (λ (x : ℕ). Holds l ws ts (lastIn k ds) x (getD (kept last (slot d) node long) (k * 2 + 1) 0))
-        (sym (kept-other last (slot d) node long roomy (k * 2) (λ z. e (omega arith)) (λ z. omega arith)))
-        (subst (λ (y : ℕ). Holds l ws ts (lastIn k ds) (getD last (k * 2) 0) y)
-        (sym (kept-other last (slot d) node long roomy (k * 2 + 1) (λ z. omega arith) (λ z. e (omega arith)))) (h .holds k i))
+        let same : (j : ℕ) → j < stride → wordAt Next k j ≡ wordAt last k j = λ j b. kept-other last (slot l (p .it)) (p .node) (p .value) (capped (size (p .it))) roomy k j b e in
+        held-as (lastIn l k ps) _ _ _ (wordAt last k nodeWord) (wordAt last k valueWord) (wordAt last k needWord) (same nodeWord (omega arith)) (same valueWord (omega arith)) (same needWord (omega arith)) (h .holds k i)
 
-    pub kept-more : Kept l ws ts (ds ++ (d ∷ [])) (kept last (slot d) node long)
+    pub kept-more : Kept l (ps ++ (p ∷ [])) Next
     kept-more =
         record {
-          full = kept-length last (slot d) node long roomy ∙ h .full;
+          full = kept-length last (slot l (p .it)) (p .node) (p .value) (capped (size (p .it))) roomy ∙ h .full;
           holds = λ k i.
-              by-test (eqb k (slot d))
-              (λ t. subst (Held k) (sym (last-same k ds d t)) (held-same k (eqb-true k (slot d) t)))
-              (λ t. subst (Held k) (sym (last-other k ds d t)) (held-other k i (eqb-false k (slot d) t)));
+              by-test (eqb k (slot l (p .it)))
+              (λ t. subst (λ (o : Option Placed). HeldAs o Next k) (sym (last-more l k ps p true t)) (held-same k (eqb-true k (slot l (p .it)) t)))
+              (λ t. subst (λ (o : Option Placed). HeldAs o Next k) (sym (last-more l k ps p false t)) (held-other k i (eqb-false k (slot l (p .it)) t)));
         }

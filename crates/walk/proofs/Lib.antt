@@ -2,3 +2,5 @@ pub mod Notes
 pub mod Sizes
 pub mod Lasts
 pub mod Walks
+pub mod Places
+pub mod One

@@ -1,14 +1,18 @@
 -- One command: what is noted of it, by the row of its name.
 -- Assumes nothing.
-use mathlib.Core.Path.{_≡_, refl, sym, ap, _∙_, subst}
+use mathlib.Core.Path.{_≡_, refl, sym, ap, ap₂, _∙_, subst}
 use mathlib.Core.List.{List, [], _∷_}
 use mathlib.Core.Option.{Option, none, some}
-use Prim.Native.Nat.{ℕ, _+_, _*_, _<_}
+use Prim.Native.Nat.{ℕ, _+_, _<_}
 use native.Mathlib.Omega.{arith}
+use Rattle.ground.specs.Bytes.{bytes}
 use Rattle.ground.specs.Lists.{at}
 use Rattle.refusals.specs.declared.Refusal.the-variants.{UnexpectedModel}
+use Rattle.arena.specs.Node.{afterAt}
+use Rattle.arena.specs.Stands.{standAll}
 use Rattle.arena.specs.Text.{textAt}
-use Rattle.arena.specs.Tree.{Tree}
+use Rattle.arena.specs.Tree.{Tree, symbol, app, nil, cons, nodes}
+use Rattle.arena.proofs.Layouts.{stands-lays, stands-after}
 use Rattle.tables.specs.declared.find.Found.{Found}
 use Rattle.tables.specs.Find.{found as rowFound, variableRow, functionRow}
 use Rattle.tables.specs.Layout.{Lent, count, word, tablesOf, variableAt, functionAt}
@@ -20,11 +24,13 @@ use Rattle.values.specs.Value.{Value}
 use Rattle.literals.specs.Plan.{Given}
 use Rattle.commands.specs.declared.command.CommandFound.{CommandFound}
 use Rattle.commands.specs.Command.{Command, variable, function, misshapen, command}
-use Rattle.commands.specs.CommandShows.{CommandShows, CommandAt}
+use Rattle.commands.specs.CommandShows.{CommandShows, CommandAt, LastAt, fifth}
+use Rattle.commands.proofs.Shapes.{define, CommandView, c-variable, c-function, c-misshapen, command-view}
 use Rattle.model.specs.Model.{Table, Definition, isVariable, isFunction, variableValue, functionTable, onRow, readCommand}
 use Rattle.definitions.specs.declared.measure.Measured.{Measured}
 use Rattle.definitions.specs.Measure.{valueSize, tableSize, measured, VariableAt, FunctionAt}
 use Rattle.walk.specs.declared.command.Noted.{Noted}
+use Rattle.walk.specs.Placed.{lastPart, valueAt}
 use Rattle.walk.specs.Noted.{noted, notedAs, NotesVariable, NotesFunction, NotesAt}
 
 found-row : (o : Option ℕ) (row : ℕ) → Found.Row row ≡ rowFound o → o ≡ some row
@@ -36,15 +42,16 @@ found-none none e = refl
 found-none (some i) e = let z : _≡_ {A = ℕ} 0 1 = cc in absurd (omega arith)
 
 -- what is noted of a definition that was read
-noted-value : (m : Result Value) (row : ℕ) → notedAs (measured valueSize m) (row * 2) ≡ noted ((m >>= λ x. ok (isVariable row x)) >>= λ d. ok (d ∷ []))
-unfolding _>>=_
-noted-value (ok v) row = refl
-noted-value (refused r) row = refl
+module _ (l : Lent) (row value : ℕ) where
+  noted-value : (m : Result Value) → notedAs (measured valueSize m) row value ≡ noted l ((m >>= λ x. ok (isVariable row x)) >>= λ d. ok (d ∷ [])) value
+  unfolding _>>=_
+  noted-value (ok v) = refl
+  noted-value (refused r) = refl
 
-noted-table : (m : Result Table) (row : ℕ) → notedAs (measured tableSize m) (row * 2 + 1) ≡ noted ((m >>= λ t. ok (isFunction row t)) >>= λ d. ok (d ∷ []))
-unfolding _>>=_
-noted-table (ok t) row = refl
-noted-table (refused r) row = refl
+  noted-table : (m : Result Table) → notedAs (measured tableSize m) (count (l .variables) + row) value ≡ noted l ((m >>= λ t. ok (isFunction row t)) >>= λ d. ok (d ∷ [])) value
+  unfolding _>>=_
+  noted-table (ok t) = refl
+  noted-table (refused r) = refl
 
 -- a row that is there
 on-some : {A : Type 0} (l : Lent) (rows : List A) (i : ℕ) (a : A) (rule : ℕ → A → Result Definition) → at rows i ≡ some a →
@@ -67,18 +74,18 @@ module _ (l : Lent) (ws ts : List ℕ) (offset long : ℕ) (asked : List ℕ) (n
     module _ (sort value : ℕ) where
       pub variable-skipped : q ≡ Found.NoRow → NotesVariable l ws ts offset long sort value Noted.Skipped
       variable-skipped e name s t r a b =
-          sym (ap (λ (o : Option ℕ). noted (onRow (tablesOf l) (tablesOf l .variables) o (λ i v. variableValue (tablesOf l) v s t >>= λ x. ok (isVariable i x))))
+          sym (ap (λ (o : Option ℕ). noted l (onRow (tablesOf l) (tablesOf l .variables) o (λ i v. variableValue (tablesOf l) v s t >>= λ x. ok (isVariable i x))) value)
           (found-none (variableRow (tablesOf l) name) (sym e ∙ variable-asked name r)))
 
       pub variable-defined : (row : ℕ) → q ≡ Found.Row row → (declared : ℕ) → declared ≡ word (l .variables) row 2 →
           (m : Measured) → VariableAt (l .sorts) (l .fields) (l .members) (l .names) ws ts declared sort value m →
-          (z : Noted) → z ≡ notedAs m (row * 2) → NotesVariable l ws ts offset long sort value z
+          (z : Noted) → z ≡ notedAs m row value → NotesVariable l ws ts offset long sort value z
       variable-defined row e declared w m h z k name s t r a b =
           let p : variableRow (tablesOf l) name ≡ some row = found-row (variableRow (tablesOf l) name) row (sym e ∙ variable-asked name r) in
           let i = variable-row l row (variable-within l row name p) in
           let g = subst (λ (d : ℕ). m ≡ measured valueSize (variableValue (tablesOf l) (record { name = variableAt l row .name; sort = d }) s t)) w (h l (given-itself l) (variableAt l row .name) s t a b) in
-          k ∙ ap (λ (y : Measured). notedAs y (row * 2)) g ∙ noted-value (variableValue (tablesOf l) (variableAt l row) s t) row
-          ∙ sym (ap noted
+          k ∙ ap (λ (y : Measured). notedAs y row value) g ∙ noted-value l row value (variableValue (tablesOf l) (variableAt l row) s t)
+          ∙ sym (ap (λ (y : Result (List Definition)). noted l y value)
           (ap (λ (o : Option ℕ). onRow (tablesOf l) (tablesOf l .variables) o (λ i v. variableValue (tablesOf l) v s t >>= λ x. ok (isVariable i x))) p
           ∙ on-some l (tablesOf l .variables) row (variableAt l row) (λ i v. variableValue (tablesOf l) v s t >>= λ x. ok (isVariable i x)) i))
 
@@ -92,41 +99,83 @@ module _ (l : Lent) (ws ts : List ℕ) (offset long : ℕ) (asked : List ℕ) (n
     module _ (argOffset argLong argSort sort body : ℕ) where
       pub function-skipped : q ≡ Found.NoRow → NotesFunction l ws ts offset long argOffset argLong argSort sort body Noted.Skipped
       function-skipped e name x p s t r _ a b c =
-          sym (ap (λ (o : Option ℕ). noted (onRow (tablesOf l) (tablesOf l .functions) o (λ i v. functionTable (tablesOf l) v x p s t >>= λ y. ok (isFunction i y))))
+          sym (ap (λ (o : Option ℕ). noted l (onRow (tablesOf l) (tablesOf l .functions) o (λ i v. functionTable (tablesOf l) v x p s t >>= λ y. ok (isFunction i y))) body)
           (found-none (functionRow (tablesOf l) name) (sym e ∙ function-asked name r)))
 
       pub function-defined : (row : ℕ) → q ≡ Found.Row row → (argument result : ℕ) → argument ≡ word (l .functions) row 2 → result ≡ word (l .functions) row 3 →
           (m : Measured) → FunctionAt (l .sorts) (l .fields) (l .members) (l .names) ws ts argument result argOffset argLong argSort sort body m →
-          (z : Noted) → z ≡ notedAs m (row * 2 + 1) → NotesFunction l ws ts offset long argOffset argLong argSort sort body z
-      function-defined row e argument result w v m h z k name x p s t r u a b c =
+          (first : ℕ) → first ≡ count (l .variables) → (z : Noted) → z ≡ notedAs m (first + row) body → NotesFunction l ws ts offset long argOffset argLong argSort sort body z
+      function-defined row e argument result w v m h first f z k name x p s t r u a b c =
           let o : functionRow (tablesOf l) name ≡ some row = found-row (functionRow (tablesOf l) name) row (sym e ∙ function-asked name r) in
           let i = function-row l row (function-within l row name o) in
           let g0 = h l (given-itself l) (functionAt l row .name) x p s t u a b c in
           let g1 = subst (λ (d : ℕ). m ≡ measured tableSize (functionTable (tablesOf l) (record { name = functionAt l row .name; argument = d; result = result }) x p s t)) w g0 in
           let g = subst (λ (d : ℕ). m ≡ measured tableSize (functionTable (tablesOf l) (record { name = functionAt l row .name; argument = word (l .functions) row 2; result = d }) x p s t)) v g1 in
-          k ∙ ap (λ (y : Measured). notedAs y (row * 2 + 1)) g ∙ noted-table (functionTable (tablesOf l) (functionAt l row) x p s t) row
-          ∙ sym (ap noted
+          k ∙ ap₂ (λ (j : ℕ) (y : Measured). notedAs y (j + row) body) f g ∙ noted-table l row body (functionTable (tablesOf l) (functionAt l row) x p s t)
+          ∙ sym (ap (λ (y : Result (List Definition)). noted l y body)
           (ap (λ (o : Option ℕ). onRow (tablesOf l) (tablesOf l .functions) o (λ i v. functionTable (tablesOf l) v x p s t >>= λ y. ok (isFunction i y))) o
           ∙ on-some l (tablesOf l .functions) row (functionAt l row) (λ i v. functionTable (tablesOf l) v x p s t >>= λ y. ok (isFunction i y)) i))
+
+-- a command's last part ends where the command does
+fifth-ends : (ws ts : List ℕ) (a b c d e : Tree) (i j x y : ℕ) → standAll (cons a (cons b (cons c (cons d (cons e nil))))) ws ts i j x y → fifth ws i + nodes e ≡ j
+fifth-ends ws ts a b c d e i j x y s =
+    let s2 = s .others in
+    let s3 = s2 .others in
+    let s4 = s3 .others in
+    let s5 = s4 .others in
+    let p = stands-after ws ts a i (s .mid) x (s .off) (s .first) in
+    let q = stands-after ws ts b (s .mid) (s2 .mid) (s .off) (s2 .off) (s2 .first) in
+    let r = stands-after ws ts c (s2 .mid) (s3 .mid) (s2 .off) (s3 .off) (s3 .first) in
+    let o = stands-after ws ts d (s3 .mid) (s4 .mid) (s3 .off) (s4 .off) (s4 .first) in
+    let f : s4 .mid ≡ fifth ws i = o ∙ ap (afterAt ws) (r ∙ ap (afterAt ws) (q ∙ ap (afterAt ws) p)) in
+    let n = stands-lays ws ts e (s4 .mid) (s5 .mid) (s4 .off) (s5 .off) (s5 .first) .next in
+    let z = s5 .others .next in
+    omega (arith, f, n, z)
+
+last-ends : (ws ts : List ℕ) (i : ℕ) (t : Tree) (c : Command) → CommandView t c → (c ≡ misshapen → ⊥) → Standing t ws ts i → fifth ws (i + 1) + lastPart c ≡ i + nodes t
+last-ends ws ts i _ _ (c-variable {name = name} {sort = sort} {t = t}) m s =
+    let e = fifth-ends ws ts (symbol (bytes "define-fun")) (symbol name) (app nil) sort t (i + 1) (s .next) (s .from) (s .rest) (s .there .children) in
+    e ∙ stands-lays ws ts (define name nil sort t) i (s .next) (s .from) (s .rest) (s .there) .next
+last-ends ws ts i _ _ (c-function {name = name} {x = x} {argSort = argSort} {sort = sort} {body = body}) m s =
+    let us = cons (app (cons (symbol x) (cons argSort nil))) nil in
+    let e = fifth-ends ws ts (symbol (bytes "define-fun")) (symbol name) (app us) sort body (i + 1) (s .next) (s .from) (s .rest) (s .there .children) in
+    e ∙ stands-lays ws ts (define name us sort body) i (s .next) (s .from) (s .rest) (s .there) .next
+last-ends ws ts i _ _ c-misshapen m s = absurd (m refl)
 
 -- the command at a node, by its shape
 module _ (l : Lent) (ws ts : List ℕ) (i : ℕ) (q : CommandFound) (h : CommandAt ws ts i q) where
   shown : (c : CommandFound) → q ≡ c → (t : Tree) → Standing t ws ts i → CommandShows ws ts c (command t)
   shown c e t s = subst (λ (y : CommandFound). CommandShows ws ts y (command t)) e (h t s)
 
-  as-read : (t : Tree) (c : Command) → command t ≡ c → noted (readCommand (tablesOf l) c) ≡ noted (readCommand (tablesOf l) (command t))
-  as-read t c e = sym (ap (λ (y : Command). noted (readCommand (tablesOf l) y)) e)
+  as-read : (t : Tree) (c : Command) → command t ≡ c → (value : ℕ) → noted l (readCommand (tablesOf l) c) value ≡ noted l (readCommand (tablesOf l) (command t)) value
+  as-read t c e value = sym (ap (λ (y : Command). noted l (readCommand (tablesOf l) y) value) e)
 
-  pub command-variable : (long offset sort value : ℕ) → q ≡ CommandFound.Variable long offset sort value → (z : Noted) → NotesVariable l ws ts offset long sort value z → NotesAt l ws ts i z
-  command-variable long offset sort value e z n t s =
+  -- the node of the last part, and where the command says that it stands
+  as-placed : (t : Tree) (c : Command) → command t ≡ c → (c ≡ misshapen → ⊥) → Standing t ws ts i → (value : ℕ) → value ≡ fifth ws (i + 1) → value ≡ valueAt t i
+  as-placed t c e m s value f =
+      let k = last-ends ws ts i t c (subst (CommandView t) e (command-view t)) m s in
+      let z : lastPart (command t) ≡ lastPart c = ap lastPart e in
+      omega (arith, k, z, f)
+
+  abbrev Told : CommandFound → Type 0
+  Told c = LastAt (fifth ws (i + 1)) c
+
+  pub command-variable : LastAt (fifth ws (i + 1)) q → (long offset sort value : ℕ) → q ≡ CommandFound.Variable long offset sort value → (z : Noted) → NotesVariable l ws ts offset long sort value z → NotesAt l ws ts i z
+  command-variable f long offset sort value e z n t s =
       let w = shown (CommandFound.Variable long offset sort value) e t s in
-      n (w .0) (w .1) (w .2) (w .4) (w .5) (w .6) ∙ as-read t (variable (w .0) (w .1) (w .2)) (w .3)
+      let c = variable (w .0) (w .1) (w .2) in
+      n (w .0) (w .1) (w .2) (w .4) (w .5) (w .6) ∙ as-read t c (w .3) value
+      ∙ ap (noted l (readCommand (tablesOf l) (command t))) (as-placed t c (w .3) (λ m. let y : _≡_ {A = ℕ} 0 1 = cc in omega arith) s value (subst Told e f))
 
-  pub command-function : (long offset argLong argOffset argSort sort body : ℕ) → q ≡ CommandFound.Function long offset argLong argOffset argSort sort body →
+  pub command-function : LastAt (fifth ws (i + 1)) q → (long offset argLong argOffset argSort sort body : ℕ) → q ≡ CommandFound.Function long offset argLong argOffset argSort sort body →
       (z : Noted) → NotesFunction l ws ts offset long argOffset argLong argSort sort body z → NotesAt l ws ts i z
-  command-function long offset argLong argOffset argSort sort body e z n t s =
+  command-function f long offset argLong argOffset argSort sort body e z n t s =
       let w = shown (CommandFound.Function long offset argLong argOffset argSort sort body) e t s in
-      n (w .0) (w .1) (w .2) (w .3) (w .4) (w .6) (w .7) (w .8) (w .9) (w .10) ∙ as-read t (function (w .0) (w .1) (w .2) (w .3) (w .4)) (w .5)
+      let c = function (w .0) (w .1) (w .2) (w .3) (w .4) in
+      n (w .0) (w .1) (w .2) (w .3) (w .4) (w .6) (w .7) (w .8) (w .9) (w .10) ∙ as-read t c (w .5) body
+      ∙ ap (noted l (readCommand (tablesOf l) (command t))) (as-placed t c (w .5) (λ m. let y : _≡_ {A = ℕ} 0 1 = cc in omega arith) s body (subst Told e f))
 
-  pub command-misshapen : q ≡ CommandFound.Misshapen → NotesAt l ws ts i (Noted.Refused UnexpectedModel)
-  command-misshapen e t s = as-read t misshapen (shown CommandFound.Misshapen e t s)
+  pub command-refused : (why : Refusal) → q ≡ CommandFound.Refused why → NotesAt l ws ts i (Noted.Refused why)
+  command-refused why e t s =
+      let w = shown (CommandFound.Refused why) e t s in
+      ap Noted.Refused (w .1) ∙ as-read t misshapen (w .0) (valueAt t i)

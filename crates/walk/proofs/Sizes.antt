@@ -1,4 +1,4 @@
--- How long a definition can be: 131,300 bytes a node of its command, and two for each byte of the command's text; and where its slot is.
+-- How long a definition can be: 131,300 bytes a node of its command, and two for each byte of the command's text; and that its row is one of its table.
 -- Assumes nothing.
 use mathlib.Core.Path.{_≡_, refl, sym, ap, _∙_, subst}
 use mathlib.Core.Bool.{true, false}
@@ -15,7 +15,6 @@ use Rattle.arena.proofs.Layouts.{nodes-some}
 use Rattle.tables.specs.Find.{variableRow, functionRow}
 use Rattle.tables.specs.Rules.{lawful}
 use Rattle.tables.specs.Sort.{Variable, Function, Tables}
-use Rattle.tables.proofs.Lawful.{lawful-parts}
 use Rattle.sorts.specs.Result.{Result, ok}
 use Rattle.sorts.specs.Sort.{levels}
 use Rattle.values.specs.Text.{text}
@@ -31,8 +30,8 @@ use Rattle.model.specs.Model.{Arm, armOf, Table, push, Definition, readChain, r
 use Rattle.model.specs.Listing.{line, armLines}
 use Rattle.model.proofs.Lengths.{length-line}
 use Rattle.definitions.specs.Measure.{valueSize, tableSize}
-use Rattle.walk.specs.Noted.{slot, size}
-use Rattle.walk.specs.Last.{slots}
+use Rattle.walk.specs.Noted.{size}
+use Rattle.walk.specs.Placed.{Within}
 
 abbrev room : Tree → ℕ
 room t = roomBy 131300 t
@@ -168,10 +167,10 @@ module _ (T : Tables) (rules : lawful T ≡ true) where
       let q = passed _ UnmatchedType _ t (p .1) in
       body-short x (a .got) (r .got) body t (q .1)
 
-  -- a definition that a command gives: it is alone, it has a slot, and it is short
+  -- a definition that a command gives: it is alone, its row is one of its table, and it is short
   pub record Given (t : Tree) (d : Definition) (ds : List Definition) : Type 0 where
     pub alone : ds ≡ []
-    pub placed : slot d < slots
+    pub within : Within T d
     pub short : size d ≤ 131300 * nodes t + 2 * length (treeText t)
 
   record Ruled {A : Type 0} (rows : List A) (rule : ℕ → A → Result Definition) (d : Definition) (ds : List Definition) : Type 0 where
@@ -208,31 +207,23 @@ module _ (T : Tables) (rules : lawful T ≡ true) where
   command-given _ _ (c-variable {name = name} {sort = sort} {t = t}) d ds e =
       let r = on-row (T .variables) (variableRow T name) _ d ds e in
       let w = went _ _ d (r .ruled) in
-      let i = at-within (T .variables) (r .row) (r .it) (r .there) in
-      let few = lawful-parts T rules .variables .few in
       subst (λ (y : Definition). Given (define name nil sort t) y ds) (ok-same (w .next))
       (record {
         alone = r .alone;
-        placed = omega (arith, i, few);
+        within = at-within (T .variables) (r .row) (r .it) (r .there);
         short = omega (arith, value-short (r .it) sort t (w .got) (w .first), define-room name nil sort t);
       })
   command-given _ _ (c-function {name = name} {x = x} {argSort = argSort} {sort = sort} {body = body}) d ds e =
       let r = on-row (T .functions) (functionRow T name) _ d ds e in
       let w = went _ _ d (r .ruled) in
-      let i = at-within (T .functions) (r .row) (r .it) (r .there) in
-      let few = lawful-parts T rules .functions .few in
       let us = cons (app (cons (symbol x) (cons argSort nil))) nil in
       subst (λ (y : Definition). Given (define name us sort body) y ds) (ok-same (w .next))
       (record {
         alone = r .alone;
-        placed = omega (arith, i, few);
+        within = at-within (T .functions) (r .row) (r .it) (r .there);
         short = omega (arith, table-short (r .it) x argSort sort body (w .got) (w .first), define-room name us sort body);
       })
   command-given _ _ c-misshapen d ds e = refuses e
 
   pub tree-given : (t : Tree) (d : Definition) (ds : List Definition) → readCommand T (command t) ≡ ok (d ∷ ds) → Given t d ds
   tree-given t d ds e = command-given t (command t) (command-view t) d ds e
-
-  -- of a tree that an arena holds
-  pub given-small : (t : Tree) (d : Definition) (ds : List Definition) → Given t d ds → nodes t ≤ mostNodes → length (treeText t) ≤ mostText → size d < 2 ^ 48
-  given-small t d ds g h k = omega (arith, g .short, h, k)

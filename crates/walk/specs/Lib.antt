@@ -1,3 +1,4 @@
 pub mod Noted
+pub mod Placed
 pub mod Last
 pub mod Walked

@@ -7,6 +7,7 @@ use definitions::check_variable;
 use refusals::Refusal;
 use tables::Found;
 use tables::clamp;
+use tables::count;
 use tables::find_function;
 use tables::find_variable;
 use tables::word;
@@ -15,15 +16,19 @@ ghost use Rattle.walk.specs.Noted.{notedAs, NotesVariable, NotesFunction
 
 pub enum Noted {
     Skipped,
-    Defines { slot: usize, need: usize },
+    Defines {
+        slot: usize,
+        value: usize,
+        need: usize,
+    },
     Refused(Refusal),
 }
 
-fn noted_as(measured: Measured, slot: usize) -> Noted
-    ensures { λ r. ⌜ r ≡ notedAs measured slot ⌝ }
+fn noted_as(measured: Measured, slot: usize, value: usize) -> Noted
+    ensures { λ r. ⌜ r ≡ notedAs measured slot value ⌝ }
 {
     match measured {
-        Measured::Need(need) => Noted::Defines { slot, need },
+        Measured::Need(need) => Noted::Defines { slot, value, need },
         Measured::Refused(refusal) => Noted::Refused(refusal),
     }
 }
@@ -39,13 +44,13 @@ fn note_variable(
     nodes: &[u64],
     text: &[u8],
     offset: u64,
-    length: u64,
+    size: u64,
     sort: usize,
     value: usize,
 ) -> Noted
-    ensures { λ r. ⌜ NotesVariable (record { sorts = now (sorts .entry); fields = now (fields .entry); variables = now (variables .entry); functions = now (functions .entry); members = now (members .entry); names = now (names .entry) }) (now (nodes .entry)) (now (text .entry)) offset length sort value r ⌝ }
+    ensures { λ r. ⌜ NotesVariable (record { sorts = now (sorts .entry); fields = now (fields .entry); variables = now (variables .entry); functions = now (functions .entry); members = now (members .entry); names = now (names .entry) }) (now (nodes .entry)) (now (text .entry)) offset size sort value r ⌝ }
 {
-    let range = clamp(offset, length, text.len());
+    let range = clamp(offset, size, text.len());
     let start = range.start;
     let end = range.end;
     let found = find_variable(variables, names, &text[start..end]);
@@ -63,7 +68,7 @@ fn note_variable(
                 sort,
                 value,
             );
-            noted_as(measured, row * 2)
+            noted_as(measured, row, value)
         }
         Found::NoRow => Noted::Skipped,
     }
@@ -80,16 +85,16 @@ fn note_function(
     nodes: &[u64],
     text: &[u8],
     offset: u64,
-    length: u64,
+    size: u64,
     arg_offset: u64,
     arg_length: u64,
     arg_sort: usize,
     sort: usize,
     body: usize,
 ) -> Noted
-    ensures { λ r. ⌜ NotesFunction (record { sorts = now (sorts .entry); fields = now (fields .entry); variables = now (variables .entry); functions = now (functions .entry); members = now (members .entry); names = now (names .entry) }) (now (nodes .entry)) (now (text .entry)) offset length «arg_offset» «arg_length» «arg_sort» sort body r ⌝ }
+    ensures { λ r. ⌜ NotesFunction (record { sorts = now (sorts .entry); fields = now (fields .entry); variables = now (variables .entry); functions = now (functions .entry); members = now (members .entry); names = now (names .entry) }) (now (nodes .entry)) (now (text .entry)) offset size «arg_offset» «arg_length» «arg_sort» sort body r ⌝ }
 {
-    let range = clamp(offset, length, text.len());
+    let range = clamp(offset, size, text.len());
     let start = range.start;
     let end = range.end;
     let found = find_function(functions, names, &text[start..end]);
@@ -112,7 +117,7 @@ fn note_function(
                 sort,
                 body,
             );
-            noted_as(measured, row * 2 + 1)
+            noted_as(measured, count(variables) + row, body)
         }
         Found::NoRow => Noted::Skipped,
     }
@@ -135,7 +140,7 @@ pub fn check_command(
     let command = command_at(nodes, text, at);
     match command {
         CommandFound::Variable {
-            length,
+            size,
             offset,
             sort,
             value,
@@ -149,12 +154,12 @@ pub fn check_command(
             nodes,
             text,
             offset,
-            length,
+            size,
             sort,
             value,
         ),
         CommandFound::Function {
-            length,
+            size,
             offset,
             arg_length,
             arg_offset,
@@ -171,13 +176,13 @@ pub fn check_command(
             nodes,
             text,
             offset,
-            length,
+            size,
             arg_offset,
             arg_length,
             arg_sort,
             sort,
             body,
         ),
-        CommandFound::Misshapen => Noted::Refused(Refusal::UnexpectedModel),
+        CommandFound::Refused(refusal) => Noted::Refused(refusal),
     }
 }

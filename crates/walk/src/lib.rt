@@ -3,5 +3,10 @@ mod command;
 mod last;
 mod walk;
 
+pub use last::NEED;
+pub use last::NODE;
+pub use last::VALUE;
+pub use last::WORDS;
+pub use last::noted;
 pub use walk::Walked;
 pub use walk::walk_commands;

@@ -43,8 +43,8 @@ pub fn walk_commands(
         );
         match noted {
             Noted::Skipped => {}
-            Noted::Defines { slot, need } => {
-                keep(last, slot, at, need);
+            Noted::Defines { slot, value, need } => {
+                keep(last, slot, at, value, need);
             }
             Noted::Refused(refusal) => {
                 return Walked::Refused(refusal);

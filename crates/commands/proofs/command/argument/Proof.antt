@@ -1,3 +1,4 @@
+use mathlib.Core.Path.{refl}
 use Rattle.commands.proofs.Commands.{argument-none, argument-word}
 use borrow.Author.Needs.{needs}
 use Rattle.commands.proofs.command.argument.Statement.{statement}
@@ -8,10 +9,10 @@ use Rattle.arena.proofs.after.Reads as after-reads
 use Rattle.shapes.proofs.symbol_at.Reads as symbol-at-reads
 
 returns : tie.Need-returns
-returns c = let a = c .before .before .before .before .args in argument-none (a .nodes .now) (a .size) (a .offset) (a .first) (a .sort) (a .body) _ (c .before .before .symbol-at .ensures) (c .enum-told .given .1)
+returns c = let a = c .before .before .before .before .args in (argument-none (a .nodes .now) (a .size) (a .offset) (a .first) (a .sort) (a .body) _ (c .before .before .symbol-at .ensures) (c .enum-told .given .1), tt)
 
 returns-2 : tie.Need-returns-2
-returns-2 c = let a = c .before .before .before .before .before .before .args in argument-word (a .nodes .now) (a .size) (a .offset) (a .first) (a .sort) (a .body) _ (c .before .before .before .before .symbol-at .ensures) _ _ (c .before .before .word .given .1) _ (c .after .ensures)
+returns-2 c = let a = c .before .before .before .before .before .before .args in (argument-word (a .nodes .now) (a .size) (a .offset) (a .first) (a .sort) (a .body) _ (c .before .before .before .before .symbol-at .ensures) _ _ (c .before .before .word .given .1) _ (c .after .ensures), refl)
 
 pub argument-spec : {M : Type 1} → statement M
 argument-spec =

@@ -9,13 +9,13 @@ use Rattle.walk.proofs.command.note_function.Reads as note-function-rea
 use Rattle.walk.proofs.command.note_variable.Reads as note-variable-reads
 
 returns : tie.Need-returns
-returns c = let a = c .before .before .before .before .before .before .before .before .before .before .before .before .before .args in command-variable (record { sorts = a .sorts .now; fields = a .fields .now; variables = a .variables .now; functions = a .functions .now; members = a .members .now; names = a .names .now }) (a .nodes .now) (a .text .now) (a .at) (c .before .before .before .before .command-at .result) (c .before .before .before .before .command-at .ensures) _ _ _ _ (c .before .before .command .given .1) (c .note-variable .result) (c .note-variable .ensures)
+returns c = let a = c .before .before .before .before .before .before .before .before .before .before .before .before .before .args in command-variable (record { sorts = a .sorts .now; fields = a .fields .now; variables = a .variables .now; functions = a .functions .now; members = a .members .now; names = a .names .now }) (a .nodes .now) (a .text .now) (a .at) (c .before .before .before .before .command-at .result) (c .before .before .before .before .command-at .ensures .0) (c .before .before .before .before .command-at .ensures .1) _ _ _ _ (c .before .before .command .given .1) (c .note-variable .result) (c .note-variable .ensures)
 
 returns-2 : tie.Need-returns-2
-returns-2 c = let a = c .before .before .before .before .before .before .before .before .before .before .before .before .before .args in command-function (record { sorts = a .sorts .now; fields = a .fields .now; variables = a .variables .now; functions = a .functions .now; members = a .members .now; names = a .names .now }) (a .nodes .now) (a .text .now) (a .at) (c .before .before .before .before .command-at .result) (c .before .before .before .before .command-at .ensures) _ _ _ _ _ _ _ (c .before .before .command2 .given .1) (c .note-function .result) (c .note-function .ensures)
+returns-2 c = let a = c .before .before .before .before .before .before .before .before .before .before .before .before .before .args in command-function (record { sorts = a .sorts .now; fields = a .fields .now; variables = a .variables .now; functions = a .functions .now; members = a .members .now; names = a .names .now }) (a .nodes .now) (a .text .now) (a .at) (c .before .before .before .before .command-at .result) (c .before .before .before .before .command-at .ensures .0) (c .before .before .before .before .command-at .ensures .1) _ _ _ _ _ _ _ (c .before .before .command2 .given .1) (c .note-function .result) (c .note-function .ensures)
 
 returns-3 : tie.Need-returns-3
-returns-3 c = let a = c .before .before .before .before .before .before .before .before .before .before .before .args in command-misshapen (record { sorts = a .sorts .now; fields = a .fields .now; variables = a .variables .now; functions = a .functions .now; members = a .members .now; names = a .names .now }) (a .nodes .now) (a .text .now) (a .at) (c .before .before .command-at .result) (c .before .before .command-at .ensures) (c .enum-told .given .1)
+returns-3 c = let a = c .before .before .before .before .before .before .before .before .before .before .before .args in command-misshapen (record { sorts = a .sorts .now; fields = a .fields .now; variables = a .variables .now; functions = a .functions .now; members = a .members .now; names = a .names .now }) (a .nodes .now) (a .text .now) (a .at) (c .before .before .command-at .result) (c .before .before .command-at .ensures .0) (c .enum-told .given .1)
 
 pub check-command-spec : {M : Type 1} → statement M
 check-command-spec =

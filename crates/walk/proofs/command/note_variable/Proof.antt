@@ -1,6 +1,5 @@
 use mathlib.Core.Path.{refl}
-use native.Mathlib.Omega.{arith}
-use Rattle.walk.proofs.Notes.{variable-inside, variable-skipped, variable-defined}
+use Rattle.walk.proofs.Notes.{variable-skipped, variable-defined}
 use borrow.Author.Needs.{needs}
 use Rattle.walk.proofs.command.note_variable.Statement.{statement}
 use Rattle.walk.proofs.command.note_variable.Tie as tie
@@ -12,14 +11,11 @@ use Rattle.tables.proofs.clamp.Reads as clamp-reads
 use Rattle.tables.proofs.word.Reads as word-reads
 use Rattle.walk.proofs.command.noted_as.Reads as noted-as-reads
 
-mul-noted-as : tie.Need-mul-noted-as
-mul-noted-as c = let a = c .before .before .before .before .before .before .before .before .before .before .before .before .before .before .before .before .args in record { fits = omega (arith, c .before .before .before .before .before .before .before .before .before .before .before .before .before .before .before .before .good .1 .1 .0 .0, variable-inside (record { sorts = a .sorts .now; fields = a .fields .now; variables = a .variables .now; functions = a .functions .now; members = a .members .now; names = a .names .now }) (a .nodes .now) (a .text .now) (a .offset) (a .length) _ (c .before .before .before .before .before .before .before .clamp .ensures .holds (a .text .now) refl) (c .before .before .before .before .before .find-variable .result) (c .before .before .before .before .before .find-variable .ensures) _ (c .before .before .before .found .given .1)) }
-
 returns : tie.Need-returns
-returns c = let a = c .before .before .before .before .before .before .before .before .before .before .before .before .before .before .before .before .before .args in variable-defined (record { sorts = a .sorts .now; fields = a .fields .now; variables = a .variables .now; functions = a .functions .now; members = a .members .now; names = a .names .now }) (a .nodes .now) (a .text .now) (a .offset) (a .length) _ (c .before .before .before .before .before .before .before .before .clamp .ensures .holds (a .text .now) refl) (c .before .before .before .before .before .before .find-variable .result) (c .before .before .before .before .before .before .find-variable .ensures) (a .sort) (a .value) _ (c .before .before .before .before .found .given .1) _ (c .before .before .word .ensures) (c .before .check-variable .result) (c .before .check-variable .ensures) _ (c .noted-as .ensures)
+returns c = let a = c .before .before .before .before .before .before .before .before .before .before .before .before .before .before .before .before .before .args in variable-defined (record { sorts = a .sorts .now; fields = a .fields .now; variables = a .variables .now; functions = a .functions .now; members = a .members .now; names = a .names .now }) (a .nodes .now) (a .text .now) (a .offset) (a .size) _ (c .before .before .before .before .before .before .before .before .clamp .ensures .holds (a .text .now) refl) (c .before .before .before .before .before .before .find-variable .result) (c .before .before .before .before .before .before .find-variable .ensures) (a .sort) (a .value) _ (c .before .before .before .before .found .given .1) _ (c .before .before .word .ensures) (c .before .check-variable .result) (c .before .check-variable .ensures) _ (c .noted-as .ensures)
 
 returns-2 : tie.Need-returns-2
-returns-2 c = let a = c .before .before .before .before .before .before .before .before .before .before .before .before .before .args in variable-skipped (record { sorts = a .sorts .now; fields = a .fields .now; variables = a .variables .now; functions = a .functions .now; members = a .members .now; names = a .names .now }) (a .nodes .now) (a .text .now) (a .offset) (a .length) _ (c .before .before .before .before .clamp .ensures .holds (a .text .now) refl) (c .before .before .find-variable .result) (c .before .before .find-variable .ensures) (a .sort) (a .value) (c .enum-told .given .1)
+returns-2 c = let a = c .before .before .before .before .before .before .before .before .before .before .before .before .before .args in variable-skipped (record { sorts = a .sorts .now; fields = a .fields .now; variables = a .variables .now; functions = a .functions .now; members = a .members .now; names = a .names .now }) (a .nodes .now) (a .text .now) (a .offset) (a .size) _ (c .before .before .before .before .clamp .ensures .holds (a .text .now) refl) (c .before .before .find-variable .result) (c .before .before .find-variable .ensures) (a .sort) (a .value) (c .enum-told .given .1)
 
 pub note-variable-spec : {M : Type 1} → statement M
 note-variable-spec =
@@ -33,7 +29,6 @@ note-variable-spec =
     (λ c. search needs)
     (λ c κs. search needs)
     (λ c κs. search needs)
-    mul-noted-as
     (λ c κs. search needs)
     (λ c. search needs)
     returns

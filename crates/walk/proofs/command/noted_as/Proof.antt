@@ -8,10 +8,10 @@ use Rattle.walk.proofs.command.noted_as.Reads as reads
 use Rattle.walk.proofs.command.noted_as.Lts as lts
 
 returns : tie.Need-returns
-returns c = sym (ap (λ (m : Measured). notedAs m (c .before .before .before .args .slot)) (c .before .measured .given .1))
+returns c = let a = c .before .before .before .args in sym (ap (λ (m : Measured). notedAs m (a .slot) (a .value)) (c .before .measured .given .1))
 
 returns-2 : tie.Need-returns-2
-returns-2 c = sym (ap (λ (m : Measured). notedAs m (c .before .before .before .args .slot)) (c .before .measured2 .given .1))
+returns-2 c = let a = c .before .before .before .args in sym (ap (λ (m : Measured). notedAs m (a .slot) (a .value)) (c .before .measured2 .given .1))
 
 pub noted-as-spec : {M : Type 1} → statement M
 noted-as-spec = tie.close (tie.spec (λ c. search needs) (λ c. search needs) returns returns-2)

@@ -1,5 +1,6 @@
-use Prim.Native.Nat.{_*_}
+use Prim.Native.Nat.{_*_, _+_}
 use native.Mathlib.Omega.{arith}
+use lib.ListN.{set}
 use lib.Seq.{lt-length-set}
 use borrow.Author.Needs.{needs}
 use Rattle.walk.proofs.last.keep.Statement.{statement}
@@ -11,7 +12,10 @@ returns : tie.Need-returns
 returns c = λ h. absurd (omega (arith, h, c .if1 .taken))
 
 slice-write-last-2 : tie.Need-slice-write-last-2
-slice-write-last-2 c = lt-length-set (c .before .args .last .now) (c .before .args .slot * 2) _ (omega (arith, c .if1 .left))
+slice-write-last-2 c = lt-length-set (c .before .args .last .now) (c .before .args .slot * 3 + 0) _ (omega (arith, c .if1 .left))
+
+slice-write-last-3 : tie.Need-slice-write-last-3
+slice-write-last-3 c = lt-length-set (set (c .before .args .last .now) (c .before .args .slot * 3 + 0) (c .before .args .node)) (c .before .args .slot * 3 + 1) _ (lt-length-set (c .before .args .last .now) (c .before .args .slot * 3 + 0) _ (omega (arith, c .if1 .left)))
 
 pub keep-spec : {M : Type 1} → statement M
 keep-spec =
@@ -24,6 +28,11 @@ keep-spec =
     (λ c. search needs)
     (λ c. search needs)
     (λ c. search needs)
+    (λ c. search needs)
     slice-write-last-2
+    (λ c. search needs)
+    (λ c. search needs)
+    (λ c. search needs)
+    slice-write-last-3
     (λ c. search needs)
     (λ c. search needs))

@@ -1,5 +1,5 @@
 use mathlib.Core.Path.{_≡_, refl, ap, _∙_}
-use lib.ListN.{length as size}
+use lib.ListN.{length}
 use mathlib.Core.Logic.{⊎-elim}
 use native.Mathlib.Omega.{arith}
 use Prim.Native.Nat.{_-_, _≤_}
@@ -15,7 +15,7 @@ use Rattle.walk.proofs.last.keep.Reads as keep-reads
 
 abbrev Inv-loop : tie.InvT-loop
 Inv-loop sorts fields variables functions members names nodes text first count last₀ at₀ i₀ last at i =
-    (i ≤ count) × (size last ≡ size last₀) × LeftAt (record { sorts = sorts; fields = fields; variables = variables; functions = functions; members = members; names = names }) nodes text first count last₀ at i last
+    (i ≤ count) × (length last ≡ length last₀) × LeftAt (record { sorts = sorts; fields = fields; variables = variables; functions = functions; members = members; names = names }) nodes text first count last₀ at i last
 
 abbrev μ-loop : tie.MeasureT-loop
 μ-loop sorts fields variables functions members names nodes text first count last₀ at₀ i₀ last at i =
@@ -28,7 +28,7 @@ returns : tie.Need-returns Inv-loop μ-loop
 returns c = let a = c .before .before .before .before .before .before .before .before .before .before .before .before .before .before .before .args in walk-refused (record { sorts = a .sorts .now; fields = a .fields .now; variables = a .variables .now; functions = a .functions .now; members = a .members .now; names = a .names .now }) (a .nodes .now) (a .text .now) (a .first) (a .count) (a .last .now) (c .before .before .before .before .before .loop .at) (c .before .before .before .before .before .loop .i) (c .before .before .before .before .before .loop .last) (c .before .before .before .before .before .loop .inv .2) (omega arith) (c .before .before .before .check-command .result) (c .before .before .before .check-command .ensures) _ (c .before .noted2 .given .1)
 
 loop-again : tie.Need-loop-again Inv-loop μ-loop
-loop-again c = let a = c .before .before .before .before .before .before .before .before .before .before .before .before .before .before .args in (omega arith, ⊎-elim (λ w. ap size (w .2) ∙ c .before .before .before .before .loop .inv .1) (λ w. ap size (w .7) ∙ w .4 .kept .0 ∙ c .before .before .before .before .loop .inv .1) (c .before .match .came), ⊎-elim (λ w. walk-skipped (record { sorts = a .sorts .now; fields = a .fields .now; variables = a .variables .now; functions = a .functions .now; members = a .members .now; names = a .names .now }) (a .nodes .now) (a .text .now) (a .first) (a .count) (a .last .now) (c .before .before .before .before .loop .at) (c .before .before .before .before .loop .i) (c .before .before .before .before .loop .last) (c .before .before .before .before .loop .inv .2) (omega arith) (c .before .before .check-command .result) (c .before .before .check-command .ensures) _ (c .after .ensures) (w .1 .given .1) _ (w .2)) (λ w. walk-defines (record { sorts = a .sorts .now; fields = a .fields .now; variables = a .variables .now; functions = a .functions .now; members = a .members .now; names = a .names .now }) (a .nodes .now) (a .text .now) (a .first) (a .count) (a .last .now) (c .before .before .before .before .loop .at) (c .before .before .before .before .loop .i) (c .before .before .before .before .loop .last) (c .before .before .before .before .loop .inv .2) (omega arith) (c .before .before .check-command .result) (c .before .before .check-command .ensures) _ (c .after .ensures) _ _ (w .1 .given .1) _ _ (w .4 .ensures) (w .7)) (c .before .match .came))
+loop-again c = let a = c .before .before .before .before .before .before .before .before .before .before .before .before .before .before .args in (omega arith, ⊎-elim (λ w. ap length (w .2) ∙ c .before .before .before .before .loop .inv .1) (λ w. ap length (w .7) ∙ w .4 .kept .0 ∙ c .before .before .before .before .loop .inv .1) (c .before .match .came), ⊎-elim (λ w. walk-skipped (record { sorts = a .sorts .now; fields = a .fields .now; variables = a .variables .now; functions = a .functions .now; members = a .members .now; names = a .names .now }) (a .nodes .now) (a .text .now) (a .first) (a .count) (a .last .now) (c .before .before .before .before .loop .at) (c .before .before .before .before .loop .i) (c .before .before .before .before .loop .last) (c .before .before .before .before .loop .inv .2) (omega arith) (c .before .before .check-command .result) (c .before .before .check-command .ensures) _ (c .after .ensures) (w .1 .given .1) _ (w .2)) (λ w. walk-defines (record { sorts = a .sorts .now; fields = a .fields .now; variables = a .variables .now; functions = a .functions .now; members = a .members .now; names = a .names .now }) (a .nodes .now) (a .text .now) (a .first) (a .count) (a .last .now) (c .before .before .before .before .loop .at) (c .before .before .before .before .loop .i) (c .before .before .before .before .loop .last) (c .before .before .before .before .loop .inv .2) (omega arith) (c .before .before .check-command .result) (c .before .before .check-command .ensures) _ (c .after .ensures) _ _ _ (w .1 .given .1) _ _ (w .4 .ensures) (w .7)) (c .before .match .came))
 
 returns-2 : tie.Need-returns-2 Inv-loop μ-loop
 returns-2 c = let a = c .before .before .before .before .before .before .before .before .before .before .before .args in walk-end (record { sorts = a .sorts .now; fields = a .fields .now; variables = a .variables .now; functions = a .functions .now; members = a .members .now; names = a .names .now }) (a .nodes .now) (a .text .now) (a .first) (a .count) (a .last .now) (c .before .loop .at) (c .before .loop .i) (c .before .loop .last) (c .before .loop .inv .2) (omega arith)
