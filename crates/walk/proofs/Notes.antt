@@ -7,6 +7,7 @@ use Prim.Native.Nat.{ℕ, _+_, _<_}
 use native.Mathlib.Omega.{arith}
 use Rattle.ground.specs.Bytes.{bytes}
 use Rattle.ground.specs.Lists.{at}
+use Rattle.refusals.specs.declared.Refusal.{Refusal}
 use Rattle.refusals.specs.declared.Refusal.the-variants.{UnexpectedModel}
 use Rattle.arena.specs.Node.{afterAt}
 use Rattle.arena.specs.Stands.{standAll}
