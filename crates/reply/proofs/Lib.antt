@@ -4,3 +4,4 @@ pub mod Spellings
 pub mod Given
 pub mod One
 pub mod Bounds
+pub mod Demand

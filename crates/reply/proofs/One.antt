@@ -26,7 +26,7 @@ use Rattle.reply.specs.Reply.{Rooms, Walks, unread, walked, Replies, too
 use Rattle.reply.specs.Printed.{Shown, shown, Shows, Prints}
 
 -- a text spells one thing
-one-spelled : (s : List ℕ) (t u : Tables) → Spells s t → Spells s u → t ≡ u
+pub one-spelled : (s : List ℕ) (t u : Tables) → Spells s t → Spells s u → t ≡ u
 one-spelled s t u p q =
     let a : parse s ≡ some t = ap parse (p .same) ∙ read-back t (p .lawful) (p .writable) in
     let b : parse s ≡ some u = ap parse (q .same) ∙ read-back u (q .lawful) (q .writable) in
