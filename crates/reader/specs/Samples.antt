@@ -61,3 +61,8 @@ table =
 samples : map (λ (row : List ℕ × Told). told (parse (row .0))) table ≡ map (λ (row : List ℕ × Told). row .1) table
 unfolding parse lexAfter pieceAt lexemeAt inside classOf spanBy inSymbol inLine utf8 octets parsed all from worth extended hexRun braced bracedEscape fourDigits escape characterAt pointsAfter encodings S.text anySurrogate scalar encoded
 samples = refl
+
+-- beside them: a fault behind a bad bracket and behind a whole tree, and brackets that are open at the end
+edges : map (λ s. told (parse s)) (bytes ") #" ∷ bytes "a #" ∷ bytes "(" ∷ bytes "((a)" ∷ []) ≡ number 1 ∷ number 1 ∷ number 1 ∷ number 1 ∷ []
+unfolding parse lexAfter pieceAt lexemeAt inside classOf spanBy inSymbol inLine utf8 octets parsed all from worth extended hexRun braced bracedEscape fourDigits escape characterAt pointsAfter encodings S.text anySurrogate scalar encoded
+edges = refl

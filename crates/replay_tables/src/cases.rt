@@ -72,34 +72,57 @@ fn read(text: &[u8], lent: Words, line: &mut [u8])
     let c = lent.variables;
     let d = lent.functions;
     let e = lent.members;
-    let found = tables_text::read_tables(
+    read_in(
         text,
         &mut sorts[zero..a],
         &mut fields[zero..b],
         &mut variables[zero..c],
         &mut functions[zero..d],
         &mut members[zero..e],
+        line,
     );
+}
+
+fn read_in(
+    text: &[u8],
+    sorts: &mut [u64],
+    fields: &mut [u64],
+    variables: &mut [u64],
+    functions: &mut [u64],
+    members: &mut [u64],
+    line: &mut [u8],
+) {
+    let found = tables_text::read_tables(text, sorts, fields, variables, functions, members);
     shows::reading(
         found,
         text,
-        &sorts[zero..a],
-        &fields[zero..b],
-        &variables[zero..c],
-        &functions[zero..d],
-        &members[zero..e],
+        sorts,
+        fields,
+        variables,
+        functions,
+        members,
         line,
     );
 }
 
 // The words of the five tables, and the bytes that names and texts stand in.
 fn words(case: &[u8], line: &mut [u8]) {
+    let mut text = rooms::text_bytes();
+    let zero = 0;
+    let second = replay::next_field(case, zero);
+    let third = replay::next_field(case, second);
+    let fourth = replay::next_field(case, third);
+    let fifth = replay::next_field(case, fourth);
+    let count = fields::put_bytes(case, replay::next_field(case, fifth), &mut text);
+    words_in(case, &text[zero..count], line);
+}
+
+fn words_in(case: &[u8], text: &[u8], line: &mut [u8]) {
     let mut sorts = rooms::row_words();
     let mut fields = rooms::field_words();
     let mut variables = rooms::row_words();
     let mut functions = rooms::row_words();
     let mut members = rooms::row_words();
-    let mut text = rooms::text_bytes();
     let zero = 0;
     let second = replay::next_field(case, zero);
     let third = replay::next_field(case, second);
@@ -110,14 +133,13 @@ fn words(case: &[u8], line: &mut [u8]) {
     let c = fields::put_words(case, third, &mut variables);
     let d = fields::put_words(case, fourth, &mut functions);
     let e = fields::put_words(case, fifth, &mut members);
-    let count = fields::put_bytes(case, replay::next_field(case, fifth), &mut text);
     let answer = tables::check_tables(
         &sorts[zero..a],
         &fields[zero..b],
         &variables[zero..c],
         &functions[zero..d],
         &members[zero..e],
-        &text[zero..count],
+        text,
     );
     shows::check(answer, line);
 }

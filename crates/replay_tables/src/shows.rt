@@ -72,17 +72,8 @@ fn table(name: &[u8], words: &[u64], count: usize, row: &[u8], line: &mut [u8]) 
     is_marked(words, most)
 }
 
-fn all(a: bool, b: bool, c: bool, d: bool, e: bool) -> bool {
-    if a {
-        if b {
-            if c {
-                if d {
-                    return e;
-                }
-            }
-        }
-    }
-    false
+fn both(a: bool, b: bool) -> bool {
+    if a { b } else { false }
 }
 
 // The tables' words and what the check says of them, or the refusal; and whether any other lent word was changed.
@@ -104,11 +95,6 @@ pub fn reading(
             functions: d,
             members: e,
         } => {
-            let one = table(b"sorts=", sorts, a, b";", line);
-            let two = table(b" fields=", fields, b, b",", line);
-            let three = table(b" variables=", variables, c, b";", line);
-            let four = table(b" functions=", functions, d, b";", line);
-            let five = table(b" members=", members, e, b";", line);
             let counts = Words {
                 sorts: a,
                 fields: b,
@@ -116,23 +102,74 @@ pub fn reading(
                 functions: d,
                 members: e,
             };
-            let judged = judge(text, sorts, fields, variables, functions, members, counts);
-            let parted = replay::put(b" ", line, 0);
-            let end = put_checked(judged, line, parted);
-            close(all(one, two, three, four, five), line, end);
+            tables(
+                text,
+                sorts,
+                fields,
+                variables,
+                functions,
+                members,
+                counts,
+                line,
+            )
         }
         TablesRead::Refused(why) => {
-            let end = put_refusal(why, line);
-            let same = all(
-                is_marked(sorts, 0),
-                is_marked(fields, 0),
-                is_marked(variables, 0),
-                is_marked(functions, 0),
-                is_marked(members, 0),
-            );
-            close(same, line, end);
+            refusal(why, sorts, fields, variables, functions, members, line)
         }
     }
+}
+
+fn tables(
+    text: &[u8],
+    sorts: &[u64],
+    fields: &[u64],
+    variables: &[u64],
+    functions: &[u64],
+    members: &[u64],
+    counts: Words,
+    line: &mut [u8],
+) {
+    let one = first_tables(sorts, fields, counts, line);
+    let two = other_tables(variables, functions, members, counts, line);
+    let judged = judge(text, sorts, fields, variables, functions, members, counts);
+    let parted = replay::put(b" ", line, 0);
+    let end = put_checked(judged, line, parted);
+    close(both(one, two), line, end);
+}
+
+fn first_tables(sorts: &[u64], fields: &[u64], counts: Words, line: &mut [u8]) -> bool {
+    let one = table(b"sorts=", sorts, counts.sorts, b";", line);
+    let two = table(b" fields=", fields, counts.fields, b",", line);
+    both(one, two)
+}
+
+fn other_tables(
+    variables: &[u64],
+    functions: &[u64],
+    members: &[u64],
+    counts: Words,
+    line: &mut [u8],
+) -> bool {
+    let one = table(b" variables=", variables, counts.variables, b";", line);
+    let two = table(b" functions=", functions, counts.functions, b";", line);
+    let three = table(b" members=", members, counts.members, b";", line);
+    both(both(one, two), three)
+}
+
+fn refusal(
+    why: Refusal,
+    sorts: &[u64],
+    fields: &[u64],
+    variables: &[u64],
+    functions: &[u64],
+    members: &[u64],
+    line: &mut [u8],
+) {
+    let end = put_refusal(why, line);
+    let rows = both(is_marked(variables, 0), is_marked(functions, 0));
+    let others = both(is_marked(fields, 0), is_marked(members, 0));
+    let same = both(is_marked(sorts, 0), both(rows, others));
+    close(same, line, end);
 }
 
 fn judge(

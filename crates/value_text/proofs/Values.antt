@@ -61,7 +61,7 @@ module _ (sorts members names ws ts : List ℕ) (i allow : ℕ) (a b : List ℕ)
 
     by-node : (x : Node) → n ≡ x → Arm x → WritesValue sorts members names ws ts i allow a b r
     by-node x e f l g t s y k m row hs =
-        f l g t s (subst (λ (z : Node). Tells ws ts z t) (sym there ∙ e) (tells ws ts i t s)) y k (subst (λ (j : ℕ). read (tablesOf l) j y t ≡ ok k) (up allow some) m) row hs
+        f l g t s (subst (λ (z : Node). Tells ws ts z t) (sym there ∙ e) (tells ws ts i t s)) y k (subst (λ (j : ℕ). read (tablesOf l) j y t ≡ ok k) (up allow nonzero) m) row hs
 
     pub value-bits : (w low high : ℕ) → n ≡ Node.BitVec w low high → Offers a b 0 (text (vBits w ((low + high * 2 ^ 64) % 2 ^ w))) r → WritesValue sorts members names ws ts i allow a b r
     unfolding read normal

@@ -15,7 +15,7 @@ returns-2 : tie.Need-returns-2
 returns-2 c = let a = c .before .before .before .before .before .before .before .before .before .before .before .before .before .args in command-function (record { sorts = a .sorts .now; fields = a .fields .now; variables = a .variables .now; functions = a .functions .now; members = a .members .now; names = a .names .now }) (a .nodes .now) (a .text .now) (a .at) (c .before .before .before .before .command-at .result) (c .before .before .before .before .command-at .ensures .0) (c .before .before .before .before .command-at .ensures .1) _ _ _ _ _ _ _ (c .before .before .command2 .given .1) (c .note-function .result) (c .note-function .ensures)
 
 returns-3 : tie.Need-returns-3
-returns-3 c = let a = c .before .before .before .before .before .before .before .before .before .before .before .args in command-refused (record { sorts = a .sorts .now; fields = a .fields .now; variables = a .variables .now; functions = a .functions .now; members = a .members .now; names = a .names .now }) (a .nodes .now) (a .text .now) (a .at) (c .before .before .command-at .result) (c .before .before .command-at .ensures .0) _ (c .command3 .given .1)
+returns-3 c = let a = c .before .before .before .before .before .before .before .before .before .before .before .before .args in command-refused (record { sorts = a .sorts .now; fields = a .fields .now; variables = a .variables .now; functions = a .functions .now; members = a .members .now; names = a .names .now }) (a .nodes .now) (a .text .now) (a .at) (c .before .before .before .command-at .result) (c .before .before .before .command-at .ensures .0) _ (c .before .command3 .given .1)
 
 pub check-command-spec : {M : Type 1} → statement M
 check-command-spec =
