@@ -8,7 +8,7 @@ use Prim.Native.Nat.{ℕ, _+_, _*_, _-_, _/_, _≤_, _<_}
 use native.Mathlib.Omega.{arith}
 use lib.Dec.{eqb}
 use lib.ListN.{length, set, replicate, length-set, length-replicate, getD-replicate, List·getD-eq-default}
-use lib.Seq.{getD-set-same, getD-set-other}
+use lib.Seq.{getD-set-same, getD-set-other, lt-length-set}
 use borrow.Author.Tests.{eqb-true, eqb-false}
 use Rattle.ground.proofs.Tests.{by-test}
 use Rattle.tables.specs.Layout.{Lent}
@@ -43,6 +43,10 @@ module _ (l : Lent) (k : ℕ) where
   last-more : (ps : List Placed) (p : Placed) (b : Bool) → eqb k (slot l (p .it)) ≡ b → lastIn l k (ps ++ (p ∷ [])) ≡ orElse (cond b (some p) none) (lastIn l k ps)
   last-more ps p b h =
       last-append ps (p ∷ []) ∙ ap (λ (o : Option Placed). orElse o (lastIn l k ps)) (last-one p ∙ ap (λ (c : Bool). cond c (some p) none) h)
+
+-- two stores keep each place
+pub lt-two : (last : List ℕ) (i j a b : ℕ) {k : ℕ} → k < length last → k < length (set (set last i a) j b)
+lt-two last i j a b h = lt-length-set (set last i a) j b (lt-length-set last i a h)
 
 -- the three words of the slot, and the words of the others
 module _ (last : List ℕ) (k node value long : ℕ) (h : k * stride + needWord < length last) where

@@ -1,7 +1,7 @@
 use Prim.Native.Nat.{_*_, _+_}
 use native.Mathlib.Omega.{arith}
-use lib.ListN.{set}
 use lib.Seq.{lt-length-set}
+use Rattle.walk.proofs.Lasts.{lt-two}
 use borrow.Author.Needs.{needs}
 use Rattle.walk.proofs.last.keep.Statement.{statement}
 use Rattle.walk.proofs.last.keep.Tie as tie
@@ -15,7 +15,7 @@ slice-write-last-2 : tie.Need-slice-write-last-2
 slice-write-last-2 c = lt-length-set (c .before .args .last .now) (c .before .args .slot * 3 + 0) _ (omega (arith, c .if1 .left))
 
 slice-write-last-3 : tie.Need-slice-write-last-3
-slice-write-last-3 c = lt-length-set (set (c .before .args .last .now) (c .before .args .slot * 3 + 0) (c .before .args .node)) (c .before .args .slot * 3 + 1) _ (lt-length-set (c .before .args .last .now) (c .before .args .slot * 3 + 0) _ (omega (arith, c .if1 .left)))
+slice-write-last-3 c = let a = c .before .args in lt-two (a .last .now) (a .slot * 3 + 0) (a .slot * 3 + 1) _ _ (omega (arith, c .if1 .left))
 
 pub keep-spec : {M : Type 1} → statement M
 keep-spec =
