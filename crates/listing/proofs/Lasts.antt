@@ -18,35 +18,31 @@ use Rattle.model.specs.Model.{Table, Definition, isVariable, isFunction, orElse
 use Rattle.model.proofs.Choices.{mapped, mapped-or}
 use Rattle.definitions.specs.Measure.{valueSize, tableSize}
 use Rattle.walk.specs.Noted.{slot, size}
-use Rattle.walk.specs.Last.{slots, nodeWord, valueWord, needWord, wordAt, lastIn, Holds}
+use Rattle.walk.specs.Last.{slots, nodeWord, valueWord, needWord, wordAt, lastIn, Words, Holds}
 use Rattle.walk.specs.Placed.{Placed, its, Within}
 use Rattle.listing.specs.Grounds.{ValueStands, TableStands, Stands, Grounded, Known}
 
--- the last one of a slot's name: none, its variable's, or its function's
-pub data Found (l : Lent) (ws ts : List ℕ) (k : ℕ) : Option Placed → Type 0 where
-  nothing : Found l ws ts k none
-  a-variable : {p : Placed} (v : Value) → p .it ≡ isVariable k v → k < count (l .variables) → Grounded l ws ts p → Found l ws ts k (some p)
-  a-function : {p : Placed} (i : ℕ) (t : Table) → p .it ≡ isFunction i t → k ≡ count (l .variables) + i → i < count (l .functions) → Grounded l ws ts p → Found l ws ts k (some p)
-
+-- the last one of a slot's name has that slot, and stands on what it was read from
 module _ (l : Lent) (ws ts : List ℕ) (k : ℕ) where
-  found-as : (p : Placed) (d : Definition) → p .it ≡ d → Within (tablesOf l) d → k ≡ slot l d → Grounded l ws ts p → Found l ws ts k (some p)
-  found-as p (isVariable i v) e w h g = let n = variable-count l in a-variable v (e ∙ ap (λ (j : ℕ). isVariable j v) (sym h)) (omega arith) g
-  found-as p (isFunction i t) e w h g = let n = function-count l in a-function i t e h (omega arith) g
+  pub record Owns (p : Placed) : Type 0 where
+    pub slot-is : k ≡ slot l (p .it)
+    pub ground : Grounded l ws ts p
 
-  found-if : (p : Placed) → Grounded l ws ts p → Found l ws ts k (cond (eqb k (slot l (p .it))) (some p) none)
-  found-if p g =
-      by-test (eqb k (slot l (p .it)))
-      (λ h. rw h (found-as p (p .it) refl (g .within) (eqb-true k (slot l (p .it)) h) g))
-      (λ h. rw h nothing)
+  abbrev pub OwnsIn : Option Placed → Type 0
+  OwnsIn none = Unit {0}
+  OwnsIn (some p) = Owns p
 
-  found-or : (a b : Option Placed) → Found l ws ts k a → Found l ws ts k b → Found l ws ts k (orElse a b)
-  found-or none b f g = g
-  found-or (some p) b f g = f
+  owns-if : (p : Placed) → Grounded l ws ts p → OwnsIn (cond (eqb k (slot l (p .it))) (some p) none)
+  owns-if p g = by-test (eqb k (slot l (p .it))) (λ h. rw h (record { slot-is = eqb-true k (slot l (p .it)) h; ground = g })) (λ h. rw h tt)
 
-  pub slot-found : (ps : List Placed) → Every (Grounded l ws ts) ps → Found l ws ts k (lastIn l k ps)
+  owns-or : (a b : Option Placed) → OwnsIn a → OwnsIn b → OwnsIn (orElse a b)
+  owns-or none b f g = g
+  owns-or (some p) b f g = f
+
+  pub slot-owned : (ps : List Placed) → Every (Grounded l ws ts) ps → OwnsIn (lastIn l k ps)
   unfolding lastIn
-  slot-found [] e = nothing
-  slot-found (p ∷ ps) (also g gs) = found-or (lastIn l k ps) _ (slot-found ps gs) (found-if p g)
+  slot-owned [] e = tt
+  slot-owned (p ∷ ps) (also g gs) = owns-or (lastIn l k ps) _ (slot-owned ps gs) (owns-if p g)
 
 -- what the words of a slot hold of its variable, and of its function
 module _ (l : Lent) (ws ts last : List ℕ) (k : ℕ) where
@@ -73,34 +69,35 @@ module _ (l : Lent) (ws ts last : List ℕ) (k : ℕ) where
   whole : (n m : ℕ) → n ≡ min m 18446744073709551615 → m < 2 ^ 42 → n ≡ m
   whole n m e h = omega arith
 
-  slot-as : (o : Option Placed) → Found l ws ts k o → Holds o (wordAt last k nodeWord) (wordAt last k valueWord) (wordAt last k needWord) → Slot o
-  slot-as _ nothing h = empty (h .0)
-  slot-as _ (a-variable {p} v e low g) h =
-      let small : valueSize v < 2 ^ 42 = subst (λ (d : Definition). size d < 2 ^ 42) e (g .small) in
-      let stands : ValueStands l ws ts v (p .value) = subst (λ (d : Definition). Stands l ws ts d (p .node) (p .value)) e (g .stands) in
-      variable v e
+  slot-of : (p : Placed) (d : Definition) → p .it ≡ d → k ≡ slot l d → Within (tablesOf l) d → size d < 2 ^ 42 → Stands l ws ts d (p .node) (p .value) → 0 < p .node →
+      Words p (wordAt last k nodeWord) (wordAt last k valueWord) (wordAt last k needWord) → wordAt last k needWord ≡ capped (size d) → Slot (some p)
+  slot-of p (isVariable i v) e s w small stands z h long =
+      variable v (e ∙ ap (λ (j : ℕ). isVariable j v) (sym s))
       (record {
-        low = low;
-        some-node = omega (arith, h .node-is, g .no-root);
+        low = omega (arith, s, w, variable-count l);
+        some-node = omega (arith, z, h .node-is);
         stands = subst (ValueStands l ws ts v) (sym (h .value-is)) stands;
-        long = whole (wordAt last k needWord) (valueSize v) (h .long-is ∙ ap (λ (d : Definition). capped (size d)) e) small;
+        long = whole (wordAt last k needWord) (valueSize v) long small;
         small = small;
       })
-  slot-as _ (a-function {p} i t e high low g) h =
-      let small : tableSize t < 2 ^ 42 = subst (λ (d : Definition). size d < 2 ^ 42) e (g .small) in
-      let stands : TableStands l ws ts i t (p .node) = subst (λ (d : Definition). Stands l ws ts d (p .node) (p .value)) e (g .stands) in
+  slot-of p (isFunction i t) e s w small stands z h long =
       function i t e
       (record {
-        high = high;
-        low = low;
-        some-node = omega (arith, h .node-is, g .no-root);
+        high = s;
+        low = omega (arith, w, function-count l);
+        some-node = omega (arith, z, h .node-is);
         stands = subst (TableStands l ws ts i t) (sym (h .node-is)) stands;
-        long = whole (wordAt last k needWord) (tableSize t) (h .long-is ∙ ap (λ (d : Definition). capped (size d)) e) small;
+        long = whole (wordAt last k needWord) (tableSize t) long small;
         small = small;
       })
 
+  slot-as : (o : Option Placed) → OwnsIn l ws ts k o → Holds o (wordAt last k nodeWord) (wordAt last k valueWord) (wordAt last k needWord) → Slot o
+  slot-as none f h = empty (h .0)
+  slot-as (some p) f h =
+      slot-of p (p .it) refl (f .slot-is) (f .ground .within) (f .ground .small) (f .ground .stands) (f .ground .no-root) h (h .long-is)
+
   pub slot-known : (ps : List Placed) → Known l ws ts last ps → k < slots → Slot (lastIn l k ps)
-  slot-known ps known low = slot-as (lastIn l k ps) (slot-found l ws ts k ps (known .grounded)) (known .kept .holds k low)
+  slot-known ps known low = slot-as (lastIn l k ps) (slot-owned l ws ts k ps (known .grounded)) (known .kept .holds k low)
 
 -- the slots' last definitions are those of the rows
 module _ (l : Lent) where

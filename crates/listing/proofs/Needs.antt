@@ -121,7 +121,7 @@ need-small l ws ts rules ps gs =
     let f = functionCount (its ps) 0 (tablesOf l .functions) in
     let e = ap length (parts l (its ps) v f refl refl) in
     let g = ap length (entries-are l ws ts ps gs) in
-    let k = sums-most (λ j. length (entryOf l ps j)) most 0 (many l) (λ j. entry-short l ws ts j rules ps gs) in
+    let k = sums-most (λ j. length (entryOf l ps j)) most 0 (many l) (λ j. entry-short l rules ws ts j ps gs) in
     let m = mul-mono (many l) (many-few l rules) in
     omega (arith, e, g, k, m, length-append (header v f) (entries l (its ps)), length-texts (entryOf l ps) 0 (many l), header-small v f)
   where

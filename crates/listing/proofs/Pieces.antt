@@ -34,39 +34,36 @@ use Rattle.listing.proofs.Rows.{many, many-few, entryOf, settledOf, ent
 use Rattle.listing.proofs.Folds.{texts}
 
 -- the line of a row's name, and of a word of it
-module _ (names rows : List ℕ) (row first size : ℕ) (range : Range) (e : first ≡ word rows row 0) (g : size ≡ word rows row 1) (h : Clamps first size (length names) range) where
-  name-line : (label : List ℕ) {a b : List ℕ} {at next : ℕ} → Offers a b at (lineOf label (take (range .end - range .start) (drop (range .start) names))) next → Lays (lineOf label (nameAt names rows row)) (lineOf label (nameAt names rows row)) a b at next
-  name-line label {a} {b} {at} {next} p =
-      lays-put (subst (λ (s : List ℕ). Offers a b at (lineOf label s) next) (clamps-name names rows row first size range e g h) p)
+pub name-offered : (names rows : List ℕ) (row first size : ℕ) (range : Range) → first ≡ word rows row 0 → size ≡ word rows row 1 → Clamps first size (length names) range →
+    (label a b : List ℕ) (at next : ℕ) → Offers a b at (lineOf label (take (range .end - range .start) (drop (range .start) names))) next → Offers a b at (lineOf label (nameAt names rows row)) next
+name-offered names rows row first size range e g h label a b at next p = subst (λ (s : List ℕ). Offers a b at (lineOf label s) next) (clamps-name names rows row first size range e g h) p
 
-  word-line : (label : List ℕ) (k w : ℕ) → w ≡ word rows row k → {a b : List ℕ} {at next : ℕ} → Offers a b at (lineOf label (decimal w)) next → Lays (lineOf label (decimal (word rows row k))) (lineOf label (decimal (word rows row k))) a b at next
-  word-line label k w q {a} {b} {at} {next} p = lays-put (subst (λ (n : ℕ). Offers a b at (lineOf label (decimal n)) next) q p)
+word-line : (label : List ℕ) {w v : ℕ} → w ≡ v → {a b : List ℕ} {at next : ℕ} → Offers a b at (lineOf label (decimal w)) next → Lays (lineOf label (decimal v)) (lineOf label (decimal v)) a b at next
+word-line label q {a} {b} {at} {next} p = lays-put (subst (λ (n : ℕ). Offers a b at (lineOf label (decimal n)) next) q p)
 
-module _ (l : Lent) (ws ts : List ℕ) (row first size : ℕ) (range : Range) where
-  module _ (e : first ≡ word (l .variables) row 0) (g : size ≡ word (l .variables) row 1) (h : Clamps first size (length (l .names)) range) where
-    pub variable-laid : (value w : ℕ) (a b c d f k : List ℕ) (place one two three four r : ℕ) → w ≡ word (l .variables) row 2 →
-        Offers a b place (lineOf (bytes "var=") (take (range .end - range .start) (drop (range .start) (l .names)))) one →
-        Offers b c one (lineOf (bytes "sort=") (decimal w)) two → Offers c d two (bytes "value=") three →
-        WritesInside (l .sorts) (l .members) (l .names) ws ts value levels d f three four → Offers f k four (bytes "\n") r →
-        LaysVariable l ws ts row value a k place r
-    variable-laid value w a b c d f k place one two three four r q p1 p2 p3 p4 p5 v s =
-        subst (λ (x : Value). Lays (variableLines (variableAt l row) (some x)) (variableLines (variableAt l row) (some (normal x))) a k place r) (s .same)
-        (lays-then (name-line (l .names) (l .variables) row first size range e g h (bytes "var=") p1)
-        (lays-then (word-line (l .names) (l .variables) row first size range e g h (bytes "sort=") 2 w q p2)
-        (lays-then (lays-put p3)
-        (lays-then (p4 l (record { sorts-are = refl; members-are = refl; names-are = refl }) (s .tree) (s .there) (s .expected) (s .lit) (s .reads) (s .lit .row) (s .fits)) (lays-put p5)))))
+module _ (l : Lent) (ws ts : List ℕ) (row : ℕ) where
+  pub variable-laid : (value w : ℕ) (a b c d f k : List ℕ) (place one two three four r : ℕ) → w ≡ word (l .variables) row 2 →
+      Offers a b place (lineOf (bytes "var=") (nameAt (l .names) (l .variables) row)) one →
+      Offers b c one (lineOf (bytes "sort=") (decimal w)) two → Offers c d two (bytes "value=") three →
+      WritesInside (l .sorts) (l .members) (l .names) ws ts value levels d f three four → Offers f k four (bytes "\n") r →
+      LaysVariable l ws ts row value a k place r
+  variable-laid value w a b c d f k place one two three four r q p1 p2 p3 p4 p5 v s =
+      subst (λ (x : Value). Lays (variableLines (variableAt l row) (some x)) (variableLines (variableAt l row) (some (normal x))) a k place r) (s .same)
+      (lays-then (lays-put p1)
+      (lays-then (word-line (bytes "sort=") q p2)
+      (lays-then (lays-put p3)
+      (lays-then (p4 l (record { sorts-are = refl; members-are = refl; names-are = refl }) (s .tree) (s .there) (s .expected) (s .lit) (s .reads) (s .lit .row) (s .fits)) (lays-put p5)))))
 
-  module _ (e : first ≡ word (l .functions) row 0) (g : size ≡ word (l .functions) row 1) (h : Clamps first size (length (l .names)) range) where
-    pub body-laid : (offset long body w v : ℕ) (a b c d f : List ℕ) (place one two three r : ℕ) → w ≡ word (l .functions) row 2 → v ≡ word (l .functions) row 3 →
-        Offers a b place (lineOf (bytes "fun=") (take (range .end - range .start) (drop (range .start) (l .names)))) one →
-        Offers b c one (lineOf (bytes "arg=") (decimal w)) two → Offers c d two (lineOf (bytes "out=") (decimal v)) three →
-        WritesTable (l .sorts) (l .members) (l .names) ws ts offset long body d f three r →
-        LaysBody l ws ts row offset long body a f place r
-    body-laid offset long body w v a b c d f place one two three r q q′ p1 p2 p3 p4 x t argument result table reads s m fits =
-        lays-then (name-line (l .names) (l .functions) row first size range e g h (bytes "fun=") p1)
-        (lays-then (word-line (l .names) (l .functions) row first size range e g h (bytes "arg=") 2 w q p2)
-        (lays-then (word-line (l .names) (l .functions) row first size range e g h (bytes "out=") 3 v q′ p3)
-        (p4 l (record { sorts-are = refl; members-are = refl; names-are = refl }) x t argument result table reads s m fits)))
+  pub body-laid : (offset long body w v : ℕ) (a b c d f : List ℕ) (place one two three r : ℕ) → w ≡ word (l .functions) row 2 → v ≡ word (l .functions) row 3 →
+      Offers a b place (lineOf (bytes "fun=") (nameAt (l .names) (l .functions) row)) one →
+      Offers b c one (lineOf (bytes "arg=") (decimal w)) two → Offers c d two (lineOf (bytes "out=") (decimal v)) three →
+      WritesTable (l .sorts) (l .members) (l .names) ws ts offset long body d f three r →
+      LaysBody l ws ts row offset long body a f place r
+  body-laid offset long body w v a b c d f place one two three r q q′ p1 p2 p3 p4 x t argument result table reads s m fits =
+      lays-then (lays-put p1)
+      (lays-then (word-line (bytes "arg=") q p2)
+      (lays-then (word-line (bytes "out=") q′ p3)
+      (p4 l (record { sorts-are = refl; members-are = refl; names-are = refl }) x t argument result table reads s m fits)))
 
 -- a slot's lines, by what its words hold
 module _ (l : Lent) (ws ts last : List ℕ) (k : ℕ) (node : ℕ) (q : node ≡ wordAt last k nodeWord) where

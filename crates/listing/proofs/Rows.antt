@@ -129,19 +129,17 @@ module _ (l : Lent) (ds : List Definition) where
   one-mapped f none = refl
   one-mapped f (some a) = refl
 
+  same-counted : {A : Type 0} (f : A → A) (last : ℕ → List Definition → Option A) → ((i : ℕ) → last i (map settled ds) ≡ mapped f (last i ds)) → (n : ℕ) →
+      sums (λ j. one ds (last j ds)) 0 n ≡ sums (λ j. one (map settled ds) (last j (map settled ds))) 0 n
+  same-counted f last e n =
+      over-as (λ a b. a + b) 0 (λ j. one ds (last j ds)) (λ j. one (map settled ds) (last j (map settled ds))) n 0 0
+      (λ k b. one-mapped f (last (0 + k) ds) ∙ ap (one (map settled ds)) (sym (e (0 + k))))
+
   pub same-variables : variableCount ds 0 (tablesOf l .variables) ≡ variableCount (map settled ds) 0 (tablesOf l .variables)
-  same-variables =
-      variables-counted l ds
-      ∙ over-as (λ a b. a + b) 0 (λ j. one ds (lastVariable j ds)) (λ j. one (map settled ds) (lastVariable j (map settled ds))) (count (l .variables)) 0 0
-      (λ k b. one-mapped normal (lastVariable (0 + k) ds) ∙ ap (one (map settled ds)) (sym (settled-variable (0 + k) ds)))
-      ∙ sym (variables-counted l (map settled ds))
+  same-variables = variables-counted l ds ∙ same-counted normal lastVariable (λ i. settled-variable i ds) (count (l .variables)) ∙ sym (variables-counted l (map settled ds))
 
   pub same-functions : functionCount ds 0 (tablesOf l .functions) ≡ functionCount (map settled ds) 0 (tablesOf l .functions)
-  same-functions =
-      functions-counted l ds
-      ∙ over-as (λ a b. a + b) 0 (λ j. one ds (lastFunction j ds)) (λ j. one (map settled ds) (lastFunction j (map settled ds))) (count (l .functions)) 0 0
-      (λ k b. one-mapped settledTable (lastFunction (0 + k) ds) ∙ ap (one (map settled ds)) (sym (settled-function (0 + k) ds)))
-      ∙ sym (functions-counted l (map settled ds))
+  same-functions = functions-counted l ds ∙ same-counted settledTable lastFunction (λ i. settled-function i ds) (count (l .functions)) ∙ sym (functions-counted l (map settled ds))
 
 -- the rest of the slots, once it is laid, makes the whole: what the loop keeps
 abbrev pub Onwards : (ℕ → List ℕ) → (ℕ → List ℕ) → ℕ → List ℕ → ℕ → List ℕ → ℕ → ℕ → Type 0

@@ -88,17 +88,16 @@ four-capped : (a b c long : ℕ) →
     min (min (min (min (a + b) 18446744073709551615 + c) 18446744073709551615 + 15) 18446744073709551615 + long) 18446744073709551615 ≡ min (a + b + c + 15 + long) 18446744073709551615
 four-capped a b c long = omega arith
 
-module _ (names rows : List ℕ) (row long first size : ℕ) (r : Range) (e : first ≡ word rows row 0) (g : size ≡ word rows row 1) (h : Clamps first size (length names) r) where
-  name-long : r .end - r .start ≡ length (nameAt names rows row)
-  name-long = sym (length-clamped names first size r h) ∙ rw (e, g) refl
+pub name-long : (names rows : List ℕ) (row first size : ℕ) (r : Range) → first ≡ word rows row 0 → size ≡ word rows row 1 → Clamps first size (length names) r → r .end - r .start ≡ length (nameAt names rows row)
+name-long names rows row first size r e g h = sym (length-clamped names first size r h) ∙ rw (e, g) refl
 
-  pub variable-sum : (w sort one two three : ℕ) → w ≡ word rows row 2 → sort ≡ digitCount w → one ≡ capped (r .end - r .start + sort) → two ≡ capped (one + 18) → three ≡ capped (two + long) →
+module _ (names rows : List ℕ) (row long name : ℕ) (n : name ≡ length (nameAt names rows row)) where
+  pub variable-sum : (w sort one two three : ℕ) → w ≡ word rows row 2 → sort ≡ digitCount w → one ≡ capped (name + sort) → two ≡ capped (one + 18) → three ≡ capped (two + long) →
       three ≡ capped (variableSize names rows row long)
-  variable-sum w sort one two three a b c d f =
-      f ∙ rw (d, c, b, a, name-long) (three-capped (length (nameAt names rows row)) (digitCount (word rows row 2)) long)
+  variable-sum w sort one two three a b c d f = f ∙ rw (d, c, b, a, n) (three-capped (length (nameAt names rows row)) (digitCount (word rows row 2)) long)
 
   pub function-sum : (w x argument result one two three four : ℕ) → w ≡ word rows row 2 → argument ≡ digitCount w → x ≡ word rows row 3 → result ≡ digitCount x →
-      one ≡ capped (r .end - r .start + argument) → two ≡ capped (one + result) → three ≡ capped (two + 15) → four ≡ capped (three + long) →
+      one ≡ capped (name + argument) → two ≡ capped (one + result) → three ≡ capped (two + 15) → four ≡ capped (three + long) →
       four ≡ capped (functionSize names rows row long)
   function-sum w x argument result one two three four a b a′ b′ c d f k =
-      k ∙ rw (f, d, c, b, b′, a, a′, name-long) (four-capped (length (nameAt names rows row)) (digitCount (word rows row 2)) (digitCount (word rows row 3)) long)
+      k ∙ rw (f, d, c, b, b′, a, a′, n) (four-capped (length (nameAt names rows row)) (digitCount (word rows row 2)) (digitCount (word rows row 3)) long)

@@ -1,9 +1,9 @@
 -- Names that are defined, counted slot by slot, and the lengths of their lines summed up.
 -- Assumes nothing.
-use mathlib.Core.Path.{_≡_, sym, ap, _∙_, subst}
+use mathlib.Core.Path.{_≡_, sym, ap, _∙_}
 use mathlib.Core.Bool.{true}
 use mathlib.Core.List.{List}
-use mathlib.Core.Option.{Option}
+use mathlib.Core.Option.{Option, none, some}
 use Prim.Native.Nat.{ℕ, min, _+_, _*_, _-_, _^_, _≤_, _<_}
 use native.Mathlib.Nat.{sub-zero}
 use native.Mathlib.Omega.{arith}
@@ -11,18 +11,19 @@ use lib.ListN.{length}
 use Rattle.order.specs.Every.{Every}
 use Rattle.tables.specs.Layout.{Lent, count, tablesOf}
 use Rattle.tables.specs.Rules.{lawful}
+use Rattle.tables.proofs.Rows.{variable-count, function-count}
 use Rattle.literals.specs.Answer.{capped}
 use Rattle.model.specs.Model.{Definition, isVariable, isFunction}
 use Rattle.definitions.specs.Measure.{valueSize, tableSize}
 use Rattle.walk.specs.Noted.{size}
 use Rattle.walk.specs.Last.{slots, nodeWord, needWord, wordAt, lastIn}
-use Rattle.walk.specs.Placed.{Placed, its}
+use Rattle.walk.specs.Placed.{Placed, its, Within}
 use Rattle.listing.specs.declared.tally.Tally.{Tally}
 use Rattle.listing.specs.Grounds.{Grounded, Known}
 use Rattle.listing.specs.Entries.{entry, entryIn, OfBoth}
 use Rattle.listing.specs.Tally.{variableSize, functionSize, variableOne, functionOne, oneIn, Small, Added, Tallied, AddsEntry, Tallies}
 use Rattle.listing.proofs.Folds.{sums, over-next, over-end, length-texts}
-use Rattle.listing.proofs.Lasts.{Found, nothing, a-variable, a-function, slot-found, Slot, empty, variable, function, slot-known}
+use Rattle.listing.proofs.Lasts.{OwnsIn, slot-owned, Slot, empty, variable, function, slot-known}
 use Rattle.listing.proofs.Rows.{many, many-few, entryOf, entries-are, variables-summed, functions-summed}
 use Rattle.listing.proofs.Sizes.{length-variable, length-function, variable-most, function-most}
 
@@ -33,17 +34,17 @@ plus-none a = omega arith
 abbrev pub most : ℕ
 most = 8796093022208
 
-found-short : (l : Lent) (ws ts : List ℕ) (k : ℕ) → lawful (tablesOf l) ≡ true → (o : Option Placed) → Found l ws ts k o → length (entryIn l o) ≤ most
-found-short l ws ts k rules _ nothing = omega arith
-found-short l ws ts k rules _ (a-variable v e low g) =
-    let small : size (isVariable k v) < 2 ^ 42 = subst (λ (d : Definition). size d < 2 ^ 42) e (g .small) in
-    subst (λ (d : Definition). length (entry l d) ≤ most) (sym e) (omega (arith, length-variable l k v, variable-most l k rules (valueSize v) low))
-found-short l ws ts k rules _ (a-function i t e high low g) =
-    let small : size (isFunction i t) < 2 ^ 42 = subst (λ (d : Definition). size d < 2 ^ 42) e (g .small) in
-    subst (λ (d : Definition). length (entry l d) ≤ most) (sym e) (omega (arith, length-function l i t, function-most l i rules (tableSize t) low))
+module _ (l : Lent) (rules : lawful (tablesOf l) ≡ true) where
+  short-of : (d : Definition) → Within (tablesOf l) d → size d < 2 ^ 42 → length (entry l d) ≤ most
+  short-of (isVariable i v) w small = omega (arith, length-variable l i v, variable-most l i rules (valueSize v) (omega (arith, w, variable-count l)))
+  short-of (isFunction i t) w small = omega (arith, length-function l i t, function-most l i rules (tableSize t) (omega (arith, w, function-count l)))
 
-pub entry-short : (l : Lent) (ws ts : List ℕ) (k : ℕ) → lawful (tablesOf l) ≡ true → (ps : List Placed) → Every (Grounded l ws ts) ps → length (entryOf l ps k) ≤ most
-entry-short l ws ts k rules ps gs = found-short l ws ts k rules (lastIn l k ps) (slot-found l ws ts k ps gs)
+  short-in : (ws ts : List ℕ) (k : ℕ) (o : Option Placed) → OwnsIn l ws ts k o → length (entryIn l o) ≤ most
+  short-in ws ts k none f = omega arith
+  short-in ws ts k (some p) f = short-of (p .it) (f .ground .within) (f .ground .small)
+
+  pub entry-short : (ws ts : List ℕ) (k : ℕ) (ps : List Placed) → Every (Grounded l ws ts) ps → length (entryOf l ps k) ≤ most
+  entry-short ws ts k ps gs = short-in ws ts k (lastIn l k ps) (slot-owned l ws ts k ps gs)
 
 module _ (l : Lent) (ws ts last : List ℕ) (k : ℕ) (rules : lawful (tablesOf l) ≡ true) where
   -- what is added for a slot
@@ -153,10 +154,13 @@ pub record Sofar (variables functions names last : List ℕ) (n i : ℕ) (s : Ta
   pub there : n ≡ count variables + count functions
   pub rest : (sorts members ws ts : List ℕ) → OfBoth (λ l. (ps : List Placed) → Known l ws ts last ps → Counting l ps n i s) sorts variables functions members names
 
-one-of : (l : Lent) (ws ts last : List ℕ) (k : ℕ) (o : Option Placed) → Slot l ws ts last k o → oneIn variableOne o + oneIn functionOne o ≤ 1
-one-of l ws ts last k _ (empty e) = omega arith
-one-of l ws ts last k _ (variable v e n) = subst (λ (d : Definition). variableOne d + functionOne d ≤ 1) (sym e) (omega arith)
-one-of l ws ts last k _ (function i t e n) = subst (λ (d : Definition). variableOne d + functionOne d ≤ 1) (sym e) (omega arith)
+one-of : (d : Definition) → variableOne d + functionOne d ≤ 1
+one-of (isVariable i v) = omega arith
+one-of (isFunction i t) = omega arith
+
+one-in : (o : Option Placed) → oneIn variableOne o + oneIn functionOne o ≤ 1
+one-in none = omega arith
+one-in (some p) = one-of (p .it)
 
 module _ (l : Lent) (ws ts last : List ℕ) (n i : ℕ) (s : Tally) (there : n ≡ many l) (ps : List Placed) (known : Known l ws ts last ps) (so : Counting l ps n i s) where
   sofar-small : i ≤ n → Small s
@@ -171,8 +175,7 @@ module _ (l : Lent) (ws ts last : List ℕ) (n i : ℕ) (s : Tally) (there : n �
       let h = many-few l (known .rules) in
       let low : i < slots = omega arith in
       let a = add low (sofar-small (omega arith)) in
-      let o = slot-known l ws ts last i ps known low in
-      counted-step _ _ _ n i s so r inside (a .variables) (a .functions) (a .need) (one-of l ws ts last i _ o) (entry-short l ws ts i (known .rules) ps (known .grounded))
+      counted-step _ _ _ n i s so r inside (a .variables) (a .functions) (a .need) (one-in (lastIn l i ps)) (entry-short l (known .rules) ws ts i ps (known .grounded))
 
   finish : n ≤ i → Tallied l (its ps) s
   finish past =

@@ -8,7 +8,7 @@ use Rattle.lent.specs.declared.Written.{Written}
 use Rattle.lent.specs.Left.{Leaves}
 use Rattle.lent.proofs.Lefts.{one-left}
 use Rattle.arena.specs.Arena.{Arena}
-use Rattle.arena.specs.Tree.{Tree, Trees, app}
+use Rattle.arena.specs.Tree.{Trees, app}
 use Rattle.arena.proofs.Arenas.{one-arena}
 use Rattle.tables.specs.Layout.{Lent, tablesOf}
 use Rattle.sorts.specs.Result.{Result}

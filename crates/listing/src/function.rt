@@ -1,10 +1,9 @@
 // A function's lines.
-use crate::line::write_line;
+use crate::line::write_name;
 use crate::line::write_number_line;
 use arms::write_table;
 use commands::CommandFound;
 use commands::command_at;
-use tables::clamp;
 use tables::word;
 ghost use Rattle.listing.specs.Entries.{WritesBody, WritesFunction};
 
@@ -26,14 +25,7 @@ fn write_table_lines(
 ) -> usize
     ensures { λ r. ⌜ WritesBody (now (sorts .entry)) (now (functions .entry)) (now (members .entry)) (now (names .entry)) (now (nodes .entry)) (now (text .entry)) row offset size body (now (out .entry)) (now (out .exit)) place r ⌝ }
 {
-    let range = clamp(
-        word(functions, row, 0),
-        word(functions, row, 1),
-        names.len(),
-    );
-    let start = range.start;
-    let end = range.end;
-    let one = write_line(b"fun=", &names[start..end], out, place);
+    let one = write_name(b"fun=", functions, names, row, out, place);
     let two = write_number_line(b"arg=", word(functions, row, 2), out, one);
     let three = write_number_line(b"out=", word(functions, row, 3), out, two);
     write_table(

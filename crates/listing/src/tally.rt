@@ -8,6 +8,8 @@ use walk::NEED;
 use walk::NODE;
 use walk::noted;
 ghost use mathlib.Core.Path.{_≡_};
+ghost use lib.ListN.{length};
+ghost use Rattle.tables.specs.Layout.{nameAt};
 ghost use Rattle.literals.specs.Answer.{capped};
 ghost use Rattle.listing.specs.Tally.{variableSize, functionSize, AddsEntry, Tallies};
 
@@ -17,6 +19,14 @@ pub struct Tally {
     pub need: usize,
 }
 
+// How long a row's name is.
+fn name_size(rows: &[u64], names: &[u8], row: usize) -> usize
+    ensures { λ r. ⌜ r ≡ length (nameAt (now (names .entry)) (now (rows .entry)) row) ⌝ }
+{
+    let range = clamp(word(rows, row, 0), word(rows, row, 1), names.len());
+    range.end - range.start
+}
+
 // `var=`, `sort=`, `value=` and three line ends.
 const VARIABLE: usize = 18;
 
@@ -24,12 +34,7 @@ const VARIABLE: usize = 18;
 fn variable_need(variables: &[u64], names: &[u8], row: usize, long: usize) -> usize
     ensures { λ r. ⌜ r ≡ capped (variableSize (now (names .entry)) (now (variables .entry)) row long) ⌝ }
 {
-    let range = clamp(
-        word(variables, row, 0),
-        word(variables, row, 1),
-        names.len(),
-    );
-    let name = range.end - range.start;
+    let name = name_size(variables, names, row);
     let sort = digit_count(word(variables, row, 2));
     plus(plus(plus(name, sort), VARIABLE), long)
 }
@@ -41,12 +46,7 @@ const FUNCTION: usize = 15;
 fn function_need(functions: &[u64], names: &[u8], row: usize, long: usize) -> usize
     ensures { λ r. ⌜ r ≡ capped (functionSize (now (names .entry)) (now (functions .entry)) row long) ⌝ }
 {
-    let range = clamp(
-        word(functions, row, 0),
-        word(functions, row, 1),
-        names.len(),
-    );
-    let name = range.end - range.start;
+    let name = name_size(functions, names, row);
     let argument = digit_count(word(functions, row, 2));
     let result = digit_count(word(functions, row, 3));
     plus(plus(plus(plus(name, argument), result), FUNCTION), long)

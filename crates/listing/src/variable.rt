@@ -1,9 +1,8 @@
 // A variable's lines.
-use crate::line::write_line;
+use crate::line::write_name;
 use crate::line::write_number_line;
 use lent::put;
 use sorts::LEVELS;
-use tables::clamp;
 use tables::word;
 use value_text::write_inside;
 ghost use Rattle.listing.specs.Entries.{WritesVariable};
@@ -24,14 +23,7 @@ pub fn write_variable(
 ) -> usize
     ensures { λ r. ⌜ WritesVariable (now (sorts .entry)) (now (variables .entry)) (now (members .entry)) (now (names .entry)) (now (nodes .entry)) (now (text .entry)) row value (now (out .entry)) (now (out .exit)) place r ⌝ }
 {
-    let range = clamp(
-        word(variables, row, 0),
-        word(variables, row, 1),
-        names.len(),
-    );
-    let start = range.start;
-    let end = range.end;
-    let one = write_line(b"var=", &names[start..end], out, place);
+    let one = write_name(b"var=", variables, names, row, out, place);
     let two = write_number_line(b"sort=", word(variables, row, 2), out, one);
     let three = put(b"value=", out, two);
     let four = write_inside(

@@ -4,13 +4,13 @@ use mathlib.Core.Path.{_≡_, refl, sym, ap, _∙_, subst}
 use mathlib.Core.Bool.{true, false}
 use mathlib.Core.List.{List, [], _∷_, _++_}
 use mathlib.Core.Option.{Option, none, some}
-use Prim.Native.Nat.{ℕ, _+_, _*_, _^_, _≤_, _<_}
+use Prim.Native.Nat.{ℕ, _+_, _*_, _≤_}
 use native.Mathlib.Omega.{arith}
 use lib.ListN.{length, length-append}
 use Rattle.ground.specs.Bytes.{bytes}
 use Rattle.ground.specs.Lists.{at}
 use Rattle.refusals.specs.declared.Refusal.the-variants.{UnexpectedModel, UnmatchedType, UnexpectedForm}
-use Rattle.arena.specs.Tree.{Tree, Trees, symbol, app, nil, cons, nodes, text as treeText, mostNodes, mostText}
+use Rattle.arena.specs.Tree.{Tree, Trees, symbol, app, nil, cons, nodes, text as treeText}
 use Rattle.arena.proofs.Layouts.{nodes-some}
 use Rattle.tables.specs.Find.{variableRow, functionRow}
 use Rattle.tables.specs.Rules.{lawful}
