@@ -1,34 +1,27 @@
 // One case: `M` for the program's rooms, `L` for larger ones or another letter for what is not lent, the tables' text and the reply, in hexadecimal.
 use crate::rooms::show_case;
+ghost use mathlib.Core.Path.{_≡_};
+ghost use lib.ListN.{length};
 
-pub fn answer(
-    case: &[u8],
-    tables: &mut [u8],
-    reply: &mut [u8],
-    nodes: &mut [u64],
-    text: &mut [u8],
-    stack: &mut [u64],
-    out: &mut [u8],
-    line: &mut [u8],
-) {
+// Room for an input that is one byte too long.
+fn case_bytes() -> [u8; 65537]
+    ensures { λ r. ⌜ 65537 ≡ length r ⌝ }
+{
+    [0; 65537]
+}
+
+pub fn answer(case: &[u8]) {
     if case.len() < 2 {
         return;
     }
+    let mut tables = case_bytes();
+    let mut reply = case_bytes();
     let kind = case[0];
     let start = 2;
     let end = replay::field_end(case, start, b' ');
-    let rows = replay::unhex(&case[start..end], tables);
+    let rows = replay::unhex(&case[start..end], &mut tables);
     let second = replay::next_field(case, start);
-    let bytes = replay::unhex(&case[second..], reply);
+    let bytes = replay::unhex(&case[second..], &mut reply);
     let zero = 0;
-    show_case(
-        kind,
-        &tables[zero..rows],
-        &reply[zero..bytes],
-        nodes,
-        text,
-        stack,
-        out,
-        line,
-    );
+    show_case(kind, &tables[zero..rows], &reply[zero..bytes]);
 }

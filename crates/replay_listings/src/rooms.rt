@@ -1,5 +1,6 @@
 // A case in its rooms, and its listing in no room, in just as much as it needs, and in one byte less.
 use lent::Written;
+ghost use mathlib.Core.Path.{_≡_};
 ghost use Prim.Native.Nat.{_≤_};
 ghost use lib.ListN.{length};
 
@@ -33,16 +34,24 @@ fn list_nothing(out: &mut [u8]) -> Written {
     )
 }
 
-// In the rooms that are lent, but for the one that the letter takes away.
-fn list_less(
-    kind: u8,
-    tables: &[u8],
-    reply: &[u8],
-    nodes: &mut [u64],
-    text: &mut [u8],
-    stack: &mut [u64],
-    out: &mut [u8],
-) -> Written {
+// Room for 16,384 nodes.
+fn node_words() -> [u64; 65536]
+    ensures { λ r. ⌜ 65536 ≡ length r ⌝ }
+{
+    [0; 65536]
+}
+
+fn stack_words() -> [u64; 8192]
+    ensures { λ r. ⌜ 8192 ≡ length r ⌝ }
+{
+    [0; 8192]
+}
+
+// In rooms of its own, but for the one that the letter takes away.
+fn list_less(kind: u8, tables: &[u8], reply: &[u8], out: &mut [u8]) -> Written {
+    let mut nodes = node_words();
+    let mut text = io::large_buffer();
+    let mut stack = stack_words();
     let zero = 0;
     let words = room(kind, b'N', nodes.len());
     let bytes = room(kind, b'T', text.len());
@@ -58,38 +67,22 @@ fn list_less(
     )
 }
 
-fn list(
-    kind: u8,
-    tables: &[u8],
-    reply: &[u8],
-    nodes: &mut [u64],
-    text: &mut [u8],
-    stack: &mut [u64],
-    out: &mut [u8],
-) -> Written {
+fn list(kind: u8, tables: &[u8], reply: &[u8], out: &mut [u8]) -> Written {
     if kind == b'M' {
         return reply::list_reply(tables, reply, out);
     }
     if kind == b'A' {
         return list_nothing(out);
     }
-    list_less(kind, tables, reply, nodes, text, stack, out)
+    list_less(kind, tables, reply, out)
 }
 
 // What is printed, in the program's rooms by the function behind it.
-fn print(
-    kind: u8,
-    tables: &[u8],
-    reply: &[u8],
-    nodes: &mut [u64],
-    text: &mut [u8],
-    stack: &mut [u64],
-    out: &mut [u8],
-) -> usize {
+fn print(kind: u8, tables: &[u8], reply: &[u8], out: &mut [u8]) -> usize {
     if kind == b'M' {
         return reply::print_reply(tables, reply, out);
     }
-    let answer = list(kind, tables, reply, nodes, text, stack, out);
+    let answer = list(kind, tables, reply, out);
     match answer {
         Written::Length(count) => count,
         Written::Refused(why) => reply::put_refusal(why, out),
@@ -113,17 +106,7 @@ fn show_told(need: usize, full: Written, short: Written, line: &mut [u8]) {
 }
 
 // The listing in just as much as it needs, and in one byte less.
-fn show_rooms(
-    kind: u8,
-    tables: &[u8],
-    reply: &[u8],
-    nodes: &mut [u64],
-    text: &mut [u8],
-    stack: &mut [u64],
-    out: &mut [u8],
-    need: usize,
-    line: &mut [u8],
-) {
+fn show_rooms(kind: u8, tables: &[u8], reply: &[u8], out: &mut [u8], need: usize, line: &mut [u8]) {
     if out.len() < need {
         return;
     }
@@ -131,83 +114,33 @@ fn show_rooms(
         return;
     }
     let zero = 0;
-    let full = list(
-        kind,
-        tables,
-        reply,
-        nodes,
-        text,
-        stack,
-        &mut out[zero..need],
-    );
+    let full = list(kind, tables, reply, &mut out[zero..need]);
     let less = need - 1;
-    let short = list(
-        kind,
-        tables,
-        reply,
-        nodes,
-        text,
-        stack,
-        &mut out[zero..less],
-    );
+    let short = list(kind, tables, reply, &mut out[zero..less]);
     show_told(need, full, short, line);
 }
 
 // The need of a listing is what it tells in no room, where a room is lent at all.
-fn show_need(
-    kind: u8,
-    tables: &[u8],
-    reply: &[u8],
-    nodes: &mut [u64],
-    text: &mut [u8],
-    stack: &mut [u64],
-    out: &mut [u8],
-    line: &mut [u8],
-) {
+fn show_need(kind: u8, tables: &[u8], reply: &[u8], out: &mut [u8], line: &mut [u8]) {
     if kind == b'O' {
         return;
     }
     let zero = 0;
-    let none = list(
-        kind,
-        tables,
-        reply,
-        nodes,
-        text,
-        stack,
-        &mut out[zero..zero],
-    );
+    let none = list(kind, tables, reply, &mut out[zero..zero]);
     let Written::Refused(why) = none else {
         return;
     };
     if why.number() != OUT_ROOM {
         return;
     }
-    show_rooms(
-        kind,
-        tables,
-        reply,
-        nodes,
-        text,
-        stack,
-        out,
-        why.detail(),
-        line,
-    );
+    show_rooms(kind, tables, reply, out, why.detail(), line);
 }
 
-pub fn show_case(
-    kind: u8,
-    tables: &[u8],
-    reply: &[u8],
-    nodes: &mut [u64],
-    text: &mut [u8],
-    stack: &mut [u64],
-    out: &mut [u8],
-    line: &mut [u8],
-) {
-    let count = print(kind, tables, reply, nodes, text, stack, out);
-    replay::flush(out, count);
-    show_need(kind, tables, reply, nodes, text, stack, out, line);
-    replay::finish(line, 0);
+pub fn show_case(kind: u8, tables: &[u8], reply: &[u8]) {
+    let mut out = io::large_buffer();
+    let mut line = io::buffer();
+    let count = print(kind, tables, reply, &mut out);
+    replay::flush(&out, count);
+    show_need(kind, tables, reply, &mut out, &mut line);
+    replay::finish(&mut line, 0);
 }

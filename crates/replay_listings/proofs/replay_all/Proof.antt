@@ -10,12 +10,10 @@ use Rattle.replay.proofs.next_line.Reads as next-line-reads
 use Rattle.replay_listings.proofs.cases.answer.Reads as answer-reads
 
 abbrev Inv-loop : tie.InvT-loop
-Inv-loop input₀ tables₀ reply₀ nodes₀ text₀ stack₀ out₀ line₀ at₀ turns₀ input tables reply nodes text stack out line at turns =
-    (length input ≡ length input₀) × (length tables ≡ length tables₀) × (length reply ≡ length reply₀) × (length nodes ≡ length nodes₀) × (length text ≡ length text₀) × (length stack ≡ length stack₀) × (length out ≡ length out₀) × (length line ≡ length line₀)
+Inv-loop input₀ at₀ turns₀ input at turns = length input ≡ length input₀
 
 abbrev μ-loop : tie.MeasureT-loop
-μ-loop input₀ tables₀ reply₀ nodes₀ text₀ stack₀ out₀ line₀ at₀ turns₀ input tables reply nodes text stack out line at turns =
-    turns
+μ-loop input₀ at₀ turns₀ input at turns = turns
 
 pub replay-all-spec : {M : Type 1} → statement M
 replay-all-spec =
@@ -32,21 +30,7 @@ replay-all-spec =
     (λ c. search needs)
     (λ c. search needs)
     (λ c. search needs)
-    (λ c. search needs)
-    (λ c. search needs)
-    (λ c. search needs)
-    (λ c. search needs)
-    (λ c. search needs)
-    (λ c. search needs)
-    (λ c. search needs)
     (λ c κs. search needs)
-    (λ c. search needs)
-    (λ c. search needs)
-    (λ c. search needs)
-    (λ c. search needs)
-    (λ c. search needs)
-    (λ c. search needs)
-    (λ c. search needs)
     (λ c. search needs)
     (λ c. search needs)
     (λ c. search needs)
