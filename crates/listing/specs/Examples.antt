@@ -12,18 +12,18 @@ use Rattle.sorts.specs.Result.{ok}
 use Rattle.model.specs.Listing.{rendered, listing, need}
 use Rattle.listing.specs.Lists.{fitted, left}
 
-abbrev none : Tables
-none = record { sorts = []; variables = []; functions = []; members = [] }
+abbrev empty : Tables
+empty = record { sorts = []; variables = []; functions = []; members = [] }
 
-pub empty-fits : left none (ok []) (replicate 14 7) ≡ record { answer = Length 14; holds = bytes "vars=0\nfuns=0\n" }
+pub empty-fits : left empty (ok []) (replicate 14 7) ≡ record { answer = Length 14; holds = bytes "vars=0\nfuns=0\n" }
 unfolding rendered listing need decimal lastDigits digitCountWithin
 empty-fits = refl
 
-pub empty-unchanged : left none (ok []) (replicate 15 7) ≡ record { answer = Length 14; holds = bytes "vars=0\nfuns=0\n" ++ (7 ∷ []) }
+pub empty-unchanged : left empty (ok []) (replicate 15 7) ≡ record { answer = Length 14; holds = bytes "vars=0\nfuns=0\n" ++ (7 ∷ []) }
 unfolding rendered listing need decimal lastDigits digitCountWithin
 empty-unchanged = refl
 
-pub empty-short : left none (ok []) (replicate 13 7) ≡ record { answer = Refused (OutRoom 14); holds = replicate 13 7 }
+pub empty-short : left empty (ok []) (replicate 13 7) ≡ record { answer = Refused (OutRoom 14); holds = replicate 13 7 }
 unfolding rendered listing need decimal lastDigits digitCountWithin
 empty-short = refl
 
