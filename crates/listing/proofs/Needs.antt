@@ -136,13 +136,13 @@ model-small l ws ts p (string r) ds a e = refuses e
 model-small l ws ts p (symbol r) ds a e = refuses e
 model-small l ws ts p (app us) ds a e = go (placed (tablesOf l) 1 us) refl
   where
-    all : StandingAll us ws ts 1 (many-of us)
-    all = let s = arena-stands ws ts (app us) a in record { next = nodes (app us); from = 0; rest = length (treeText (app us)); there = s .children; many-are = refl }
+    stood : StandingAll us ws ts 1 (many-of us)
+    stood = let s = arena-stands ws ts (app us) a in record { next = nodes (app us); from = 0; rest = length (treeText (app us)); there = s .children; many-are = refl }
 
     go : (m : Result (List Placed)) → placed (tablesOf l) 1 us ≡ m → need (tablesOf l) ds < 2 ^ 56
     go (ok ps) z =
         let k : ok (its ps) ≡ ok ds = sym (ap (λ (x : Result (List Placed)). x >>= λ qs. ok (its qs)) z) ∙ placed-read (tablesOf l) 1 us ∙ e in
-        subst (λ (es : List Definition). need (tablesOf l) es < 2 ^ 56) (ok-same k) (need-small l ws ts (passes-rules l p) ps (commands-grounded l ws ts us (many-of us) all (sure-of l ws ts us p a) ps z))
+        subst (λ (es : List Definition). need (tablesOf l) es < 2 ^ 56) (ok-same k) (need-small l ws ts (passes-rules l p) ps (commands-grounded l ws ts us (many-of us) stood (sure-of l ws ts us p a) ps z))
     go (refused r) z = let k : refused r ≡ ok ds = sym (ap (λ (x : Result (List Placed)). x >>= λ qs. ok (its qs)) z) ∙ placed-read (tablesOf l) 1 us ∙ e in refuses k
 
 -- what is told
