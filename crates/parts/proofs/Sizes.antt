@@ -8,6 +8,7 @@ use native.Mathlib.Nat.{zero-mul, suc-mul, mul-zero, mul-suc}
 use native.Mathlib.Omega.{arith}
 use lib.ListN.{length, take, drop, length-append, length-drop}
 use lib.Seq.{length-take-le}
+use Rattle.refusals.specs.Limit.{inputLimit}
 use Rattle.ground.specs.Bytes.{bytes}
 use Rattle.ground.specs.Lists.{joined}
 use Rattle.parts.specs.Parts.{parts, partsFrom, paired, trailed, rise, lastFrom, endsRight}
@@ -96,11 +97,11 @@ last-within size start [] s h = s
 last-within size start (end ∷ ends) s h = let r = rises start size end ends h in last-within size end ends (r .within) (r .rest)
 
 -- at most three bytes between two of at most so many parts
-pub gap-small : (count gap : ℕ) → count ≤ 16777216 → gap ≤ 3 → (count - 1) * gap ≤ 50331648
+pub gap-small : (count gap : ℕ) → count ≤ inputLimit → gap ≤ 3 → (count - 1) * gap ≤ 50331648
 gap-small count gap h g =
     at-most (count - 1) gap (omega arith) g
   where
-    at-most : (n gap : ℕ) → n ≤ 16777216 → gap ≤ 3 → n * gap ≤ 50331648
+    at-most : (n gap : ℕ) → n ≤ inputLimit → gap ≤ 3 → n * gap ≤ 50331648
     at-most n zero h g = omega (arith, mul-zero n)
     at-most n (suc zero) h g = omega (arith, mul-suc n 0, mul-zero n)
     at-most n (suc (suc zero)) h g = omega (arith, mul-suc n 1, mul-suc n 0, mul-zero n)

@@ -8,6 +8,7 @@ use native.Mathlib.Omega.{arith}
 use lib.Dec.{ltb}
 use lib.ListN.{length, take, drop, length-take, length-drop}
 use borrow.Rule.Slice.PartMut.{putMid}
+use Rattle.refusals.specs.Limit.{inputLimit}
 use Rattle.refusals.specs.declared.Refusal.{Refusal}
 use Rattle.lent.specs.Put.{Fronts}
 use Rattle.lent.proofs.Copies.{tail-front}
@@ -73,7 +74,7 @@ bits-few Binary n = omega arith
 bits-few Decimal n = omega arith
 bits-few Hexadecimal n = omega arith
 
-pub bits-fit : (r : Radix) (n b : ℕ) → b ≡ bitsOf r → n ≤ 16777216 → b * n < 2 ^ 64
+pub bits-fit : (r : Radix) (n b : ℕ) → b ≡ bitsOf r → n ≤ inputLimit → b * n < 2 ^ 64
 bits-fit r n b q h = rw q (omega (arith, bits-few r n))
 
 -- a text's piece, which is no fault

@@ -6,6 +6,7 @@ use Prim.Native.Nat.{ℕ, _+_, _-_, _*_, _≤_, _<_}
 use native.Mathlib.Omega.{arith}
 use lib.Dec.{eqb}
 use lib.ListN.{length, take, drop, drop-of-length-le, length-take}
+use Rattle.refusals.specs.Limit.{inputLimit}
 use Rattle.ground.proofs.Tests.{by-test}
 use Rattle.strings.proofs.Texts.{Bytes}
 use Rattle.refusals.specs.declared.Refusal.{Refusal}
@@ -121,7 +122,7 @@ module _ (s : List ℕ) (at : ℕ) (c : Scan) (l : Lexeme) (h : Sofar s at c) (b
         found-within s at l less is,
       )
 
-  pub ample : length s ≤ 16777216 → Ample c piece
+  pub ample : length s ≤ inputLimit → Ample c piece
   ample limit = record {
     depth = omega (arith, h .depth);
     nodes = omega (arith, h .nodes);

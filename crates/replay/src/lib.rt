@@ -12,7 +12,6 @@ pub use fields::number;
 pub use fields::unhex;
 pub use lines::Line;
 pub use lines::before_lines;
-pub use lines::keep;
 pub use lines::next_line;
 pub use marks::is_marked;
 pub use marks::mark_bytes;

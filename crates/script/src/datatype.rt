@@ -10,9 +10,10 @@ use refusals::Refusal;
 ghost use mathlib.Core.Path.{_≡_};
 ghost use mathlib.Core.Bool.{true, cond, _&&_};
 ghost use mathlib.Core.List.{[], _∷_};
-ghost use Prim.Native.Nat.{_+_, _≤_};
+ghost use Prim.Native.Nat.{_+_, _*_, _≤_};
 ghost use lib.Dec.{eqb};
 ghost use lib.ListN.{length};
+ghost use Rattle.refusals.specs.Limit.{inputLimit};
 ghost use Rattle.ground.specs.Bytes.{bytes};
 ghost use Rattle.ground.specs.Lists.{joined};
 ghost use Rattle.lent.specs.Left.{Leaves};
@@ -23,7 +24,7 @@ ghost use Rattle.script.specs.Script.{scripted};
 
 // How long the line is, by its name and the joined parameters and constructors: only parameters with a text bring `par`.
 fn datatype_length(name: usize, parameters: usize, constructors: usize) -> usize
-    requires { ⌜ (name ≤ 16777216) × (parameters ≤ 33554432) × (constructors ≤ 67108864) ⌝ }
+    requires { ⌜ (name ≤ inputLimit) × (parameters ≤ 2 * inputLimit) × (constructors ≤ 4 * inputLimit) ⌝ }
     ensures { λ r. ⌜ r ≡ cond (eqb parameters 0) (name + constructors + 26) (name + parameters + constructors + 35) ⌝ }
 {
     if parameters == 0 {

@@ -7,6 +7,7 @@ use Prim.Native.Nat.{ℕ, _≤_, _<_}
 use native.Mathlib.Omega.{arith}
 use lib.ListN.{length}
 use borrow.Author.Tests.{le-leb, lt-leb}
+use Rattle.refusals.specs.Limit.{inputLimit}
 use Rattle.ground.proofs.Tests.{by-test}
 use Rattle.refusals.specs.declared.Refusal.the-variants.{StringParseError, InputTooLong, TextRoom}
 use Rattle.lent.specs.declared.Written.the-variants.{Length, Refused}
@@ -17,14 +18,14 @@ use Rattle.strings.specs.Points.{points}
 use Rattle.strings.specs.Text.{text, anySurrogate, measured, decoded}
 
 module _ (s d : List ℕ) where
-  pub decoded-long : 16777216 < length s → Leaves (decoded s d) (Refused InputTooLong) d
+  pub decoded-long : inputLimit < length s → Leaves (decoded s d) (Refused InputTooLong) d
   unfolding decoded
-  decoded-long h = rw (lt-leb (length s) 16777216 h) (leaves-refused InputTooLong d)
+  decoded-long h = rw (lt-leb (length s) inputLimit h) (leaves-refused InputTooLong d)
 
-  module _ (short : length s ≤ 16777216) where
+  module _ (short : length s ≤ inputLimit) where
     within : decoded s d ≡ cond (anySurrogate (points s)) (refusing StringParseError d) (writing TextRoom (text s) d)
     unfolding decoded
-    within = rw (le-leb (length s) 16777216 short)
+    within = rw (le-leb (length s) inputLimit short)
 
     was-surrogate : measured s ≡ Surrogate → anySurrogate (points s) ≡ true
     unfolding measured
