@@ -2,18 +2,20 @@
 use mathlib.Core.Path.{_≡_, refl}
 use mathlib.Core.List.{List, [], _∷_, map}
 use mathlib.Core.Option.{none, some}
+use Prim.Native.Nat.{_-_, _^_}
 use Prim.Native.String.{String}
 use Rattle.ground.specs.Bytes.{bytes}
 use Rattle.ground.specs.Lists.{find, at}
 use Rattle.refusals.specs.declared.Refusal.the-variants.{UnknownLiteral, UnmatchedFieldType, UnmatchedRecordType, TooNested}
 use Rattle.arena.specs.Text.{sameText}
-use Rattle.arena.specs.Tree.{Tree, Trees, symbol, string as quoted, app, nil, cons}
+use Rattle.arena.specs.Tree.{Tree, Trees, bitVec, symbol, string as quoted, app, nil, cons}
 use Rattle.tables.specs.Find.{sortRow, namedSort, memberRow}
-use Rattle.tables.specs.Sort.{bool, string, optionOf, recordOf, Tables}
+use Rattle.tables.specs.Sort.{bool, string, bitVec as bits, optionOf, recordOf, Tables}
 use Rattle.shapes.specs.Shape.{shape}
-use Rattle.sorts.specs.Result.{refused, _>>=_, unless}
+use Rattle.sorts.specs.Result.{Result, ok, refused, _>>=_, unless}
+use Rattle.values.specs.Value.{vBits}
 use Rattle.values.specs.Text.{hexWidth}
-use Rattle.literals.specs.Literal.{read}
+use Rattle.literals.specs.Literal.{Lit, lit, read}
 
 abbrev pub list : List Tree → Trees
 list [] = nil
@@ -60,3 +62,14 @@ too-deep = refl
 -- digits of widths 1, 4, 5, 127 and 128
 widths : map hexWidth (1 ∷ 4 ∷ 5 ∷ 127 ∷ 128 ∷ []) ≡ 1 ∷ 1 ∷ 2 ∷ 32 ∷ 32 ∷ []
 widths = refl
+
+-- a bit vector's value is its number below 2^width, whatever its sign: 127 ones, and 4
+abbrev vectors : Tables
+vectors = record { sorts = bits 127 ∷ bits 4 ∷ []; variables = []; functions = []; members = [] }
+
+abbrev ones : List (Result Lit)
+ones = read vectors 9 none (bitVec 127 (2 ^ 128 - 1)) ∷ read vectors 9 none (bitVec 4 (2 ^ 128 - 1)) ∷ []
+
+unsigned-read : ones ≡ ok (lit 0 (vBits 127 (2 ^ 127 - 1))) ∷ ok (lit 1 (vBits 4 15)) ∷ []
+unfolding read shape find at sameText sortRow namedSort memberRow _>>=_ unless
+unsigned-read = refl

@@ -54,3 +54,11 @@ none-lent = record { sorts = []; fields = []; variables = []; functions = []; me
 sorts-first : (fitted none-lent (record { sorts = 0 ∷ 1 ∷ 10 ∷ 0 ∷ 2 ∷ []; fields = 0 ∷ 0 ∷ []; variables = []; functions = []; members = []; names = [] })) .answer ≡ Refused (OutRoom 5)
 unfolding fitted
 sorts-first = refl
+
+-- room for the sort row alone: the fields' two words are told, and not the room that there is
+fields-next :
+    (fitted (record { sorts = 7 ∷ 7 ∷ 7 ∷ 7 ∷ 7 ∷ []; fields = 7 ∷ []; variables = []; functions = []; members = [] })
+    (record { sorts = 0 ∷ 1 ∷ 10 ∷ 0 ∷ 2 ∷ []; fields = 0 ∷ 0 ∷ []; variables = []; functions = []; members = []; names = [] })) .answer
+    ≡ Refused (OutRoom 2)
+unfolding fitted
+fields-next = refl

@@ -2,7 +2,7 @@
 use mathlib.Core.Path.{_≡_, refl}
 use mathlib.Core.Bool.{true}
 use mathlib.Core.List.{List, [], _∷_}
-use Prim.Native.Nat.{ℕ}
+use Prim.Native.Nat.{ℕ, _-_, _^_}
 use lib.IntN.{pos, negsuc}
 use Rattle.ground.specs.Bytes.{bytes}
 use Rattle.ground.specs.Lists.{joined}
@@ -18,6 +18,7 @@ values =
     text (vBool true)
     ∷ text (vBits 8 255)
     ∷ text (vBits 127 1)
+    ∷ text (vBits 127 (2 ^ 127 - 1))
     ∷ text (vString (0x61 ∷ 0xC3 ∷ []))
     ∷ text (vEntity 3 (0x7A ∷ []))
     ∷ text (vRecord 4 (vCons vNone (vCons (vSome (vBool true)) vNil)))
@@ -33,6 +34,7 @@ each : values ≡
     bytes "true"
     ∷ bytes "bv8:ff"
     ∷ bytes "bv127:00000000000000000000000000000001"
+    ∷ bytes "bv127:7fffffffffffffffffffffffffffffff"
     ∷ bytes "s:61c3"
     ∷ bytes "e3:7a"
     ∷ bytes "r4(none,some(true))"
