@@ -1,3 +1,4 @@
 pub mod Limit
 pub mod Parts
 pub mod Texts
+pub mod Examples
