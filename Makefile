@@ -1,5 +1,5 @@
 # What people type. Each target says what it needs.
-.PHONY: test tidy list library example bindings stack oracle vectors confirm compare bench
+.PHONY: test tidy list library example bindings check-api install check-install stack oracle vectors confirm compare bench
 
 # Proves every crate, tries every must-fail edit, runs every program: the gate. Needs the Rattle toolchain and Python.
 test:
@@ -38,9 +38,37 @@ target/example/%: examples/c/%.c library
 	@mkdir -p $(@D)
 	$(CC) -std=c99 $(CFLAGS) -Wall -Wextra -Werror -pedantic -Iinclude $< target/staticlib/libstazzumpi.a -o $@
 
-# Tests the Rust binding over the library. Needs the toolchain and cargo.
-bindings: library
-	cd bindings/rust && STAZZUMPI_LIB_DIR="$(abspath target/staticlib)" cargo test --offline --target-dir "$(abspath target/bindings)"
+# Tests the Rust binding over the library and runs its examples, and every call from C with NULL where a length is 0. Needs the
+# toolchain, cargo and a C compiler.
+CARGO := STAZZUMPI_LIB_DIR="$(abspath target/staticlib)" cargo
+OFFLINE := --offline --target-dir "$(abspath target/bindings)"
+bindings: library target/bindings/nulls
+	target/bindings/nulls
+	cd bindings/rust && $(CARGO) test $(OFFLINE)
+	cd bindings/rust && $(CARGO) run $(OFFLINE) --quiet --example readtree ../../vectors/replies/option-single/z3-4.8.12.model.txt
+	cd bindings/rust && $(CARGO) run $(OFFLINE) --quiet --example listmodel ../../crates/modellist/data/tables.txt ../../crates/modellist/stdin
+
+target/bindings/%: bindings/c/%.c library
+	@mkdir -p $(@D)
+	$(CC) -std=c99 $(CFLAGS) -Wall -Wextra -Werror -pedantic -Iinclude $< target/staticlib/libstazzumpi.a -o $@
+
+# Whether the exports, the header and the Rust declarations say the same, and whether that would be found if they did not. Needs Python.
+check-api:
+	python3 tools/check-api
+	python3 tools/check-api --try
+
+# The header, the library and what pkg-config asks for, under PREFIX (below DESTDIR, where a package is being made).
+PREFIX ?= /usr/local
+VERSION = $(shell sed -n 's/^version = "\(.*\)"/\1/p' bindings/rust/Cargo.toml)
+install: library
+	install -d "$(DESTDIR)$(PREFIX)/include" "$(DESTDIR)$(PREFIX)/lib/pkgconfig"
+	install -m 644 include/stazzumpi.h "$(DESTDIR)$(PREFIX)/include/"
+	install -m 644 target/staticlib/libstazzumpi.a "$(DESTDIR)$(PREFIX)/lib/"
+	sed -e 's|@PREFIX@|$(PREFIX)|' -e 's|@VERSION@|$(VERSION)|' tools/stazzumpi.pc.in > "$(DESTDIR)$(PREFIX)/lib/pkgconfig/stazzumpi.pc"
+
+# Installs into a new folder, and compiles and runs the example there, out of a third one, by pkg-config alone. Needs pkg-config too.
+check-install: library
+	CC="$(CC)" sh tools/check-install.sh
 
 # How much of the stack the listing takes, on the models that docs/DECISIONS.md names. Needs the toolchain, a C compiler and Python.
 stack: library

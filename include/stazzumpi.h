@@ -13,8 +13,7 @@
  *
  * What the caller owes:
  *   - each pointer is valid for as many elements as the length after it says, and stays so during the call;
- *   - pointers to uint64_t are aligned as that type is;
- *   - no pointer is NULL, not even where its length is 0;
+ *   - pointers to uint64_t are aligned as that type is (a pointer whose length is 0 may be NULL, or any other);
  *   - a buffer that may be written (a pointer that is not const) overlaps no other memory of the same call, and nothing else uses
  *     it during the call.
  * Nothing else is asked: all bytes, words and lengths are answered.
@@ -29,7 +28,15 @@
 extern "C" {
 #endif
 
-/* The refusals of document 01. */
+/* The version of these calls, major, minor and patch, and that of the library that is linked: as long as both have the same major
+ * number, and while that is 0 the same minor number too, what is said here holds of what is linked. */
+#define STAZZUMPI_VERSION_MAJOR 0
+#define STAZZUMPI_VERSION_MINOR 2
+#define STAZZUMPI_VERSION_PATCH 0
+#define STAZZUMPI_VERSION (STAZZUMPI_VERSION_MAJOR * 65536 + STAZZUMPI_VERSION_MINOR * 256 + STAZZUMPI_VERSION_PATCH)
+uint64_t stazzumpi_version(void);
+
+/* The refusals, by their numbers (docs/REFUSALS.md says what to do about each). */
 enum stazzumpi_refusal {
     STAZZUMPI_UnexpectedEnd = 1,
     STAZZUMPI_Utf8Error = 2,
@@ -213,6 +220,140 @@ uint64_t stazzumpi_get_model(uint8_t *out, size_t out_length, uint64_t *told, si
 uint64_t stazzumpi_reset(uint8_t *out, size_t out_length, uint64_t *told, size_t told_length);
 
 uint64_t stazzumpi_exit(uint8_t *out, size_t out_length, uint64_t *told, size_t told_length);
+
+/* The calls that take many slices once more, by structs. They only hand their parts on: answers, refusals and what each buffer holds
+ * are those of the calls above. What is told goes into a struct, whole on acceptance and as it was on refusal. */
+
+/* Tables, as the calls above take them. All zero, as `= {0}` makes them, they are empty tables. */
+struct stazzumpi_tables {
+    const uint64_t *sorts;
+    size_t sorts_length;
+    const uint64_t *fields;
+    size_t fields_length;
+    const uint64_t *variables;
+    size_t variables_length;
+    const uint64_t *functions;
+    size_t functions_length;
+    const uint64_t *members;
+    size_t members_length;
+    const uint8_t *names;
+    size_t names_length;
+};
+
+/* Room for the tables of a text. */
+struct stazzumpi_table_rooms {
+    uint64_t *sorts;
+    size_t sorts_length;
+    uint64_t *fields;
+    size_t fields_length;
+    uint64_t *variables;
+    size_t variables_length;
+    uint64_t *functions;
+    size_t functions_length;
+    uint64_t *members;
+    size_t members_length;
+};
+
+/* Room for a tree, and how much of it a tree took. */
+struct stazzumpi_tree_rooms {
+    uint64_t *nodes;
+    size_t nodes_length;
+    uint8_t *text;
+    size_t text_length;
+    uint64_t *stack;
+    size_t stack_length;
+};
+
+struct stazzumpi_tree {
+    uint64_t nodes;
+    uint64_t text;
+    uint64_t depth;
+};
+
+/* A list of texts: one string, and the ends of its parts. */
+struct stazzumpi_parts {
+    const uint8_t *string;
+    size_t string_length;
+    const uint64_t *ends;
+    size_t ends_length;
+};
+
+/* stazzumpi_parse_sexpr. */
+static inline uint64_t stazzumpi_parse_sexpr_in(const uint8_t *input, size_t input_length, const struct stazzumpi_tree_rooms *rooms,
+                                                struct stazzumpi_tree *tree) {
+    uint64_t told[3];
+    uint64_t r = stazzumpi_parse_sexpr(input, input_length, rooms->nodes, rooms->nodes_length, rooms->text, rooms->text_length,
+                                       rooms->stack, rooms->stack_length, told, 3);
+    if (r == 0) {
+        tree->nodes = told[0];
+        tree->text = told[1];
+        tree->depth = told[2];
+    }
+    return r;
+}
+
+/* stazzumpi_check_tables. */
+static inline uint64_t stazzumpi_check_tables_of(const struct stazzumpi_tables *t) {
+    return stazzumpi_check_tables(t->sorts, t->sorts_length, t->fields, t->fields_length, t->variables, t->variables_length,
+                                  t->functions, t->functions_length, t->members, t->members_length, t->names, t->names_length);
+}
+
+/* stazzumpi_read_tables: on acceptance `tables` are those that were read, in the rooms and in `text`, which have to outlive them. */
+static inline uint64_t stazzumpi_read_tables_in(const uint8_t *text, size_t text_length, const struct stazzumpi_table_rooms *rooms,
+                                                struct stazzumpi_tables *tables) {
+    uint64_t told[5];
+    uint64_t r = stazzumpi_read_tables(text, text_length, rooms->sorts, rooms->sorts_length, rooms->fields, rooms->fields_length,
+                                       rooms->variables, rooms->variables_length, rooms->functions, rooms->functions_length,
+                                       rooms->members, rooms->members_length, told, 5);
+    if (r == 0) {
+        tables->sorts = rooms->sorts;
+        tables->sorts_length = (size_t)told[0];
+        tables->fields = rooms->fields;
+        tables->fields_length = (size_t)told[1];
+        tables->variables = rooms->variables;
+        tables->variables_length = (size_t)told[2];
+        tables->functions = rooms->functions;
+        tables->functions_length = (size_t)told[3];
+        tables->members = rooms->members;
+        tables->members_length = (size_t)told[4];
+        tables->names = text;
+        tables->names_length = text_length;
+    }
+    return r;
+}
+
+/* stazzumpi_list_model: `nodes` and `text` hold the tree. */
+static inline uint64_t stazzumpi_list_model_of(const struct stazzumpi_tables *t, const uint64_t *nodes, size_t nodes_length,
+                                               const uint8_t *text, size_t text_length, uint8_t *out, size_t out_length,
+                                               uint64_t *length) {
+    return stazzumpi_list_model(t->sorts, t->sorts_length, t->fields, t->fields_length, t->variables, t->variables_length,
+                                t->functions, t->functions_length, t->members, t->members_length, t->names, t->names_length, nodes,
+                                nodes_length, text, text_length, out, out_length, length, 1);
+}
+
+/* stazzumpi_define_fun, stazzumpi_declare_fun, stazzumpi_declare_datatype. */
+static inline uint64_t stazzumpi_define_fun_of(const uint8_t *name, size_t name_length, const struct stazzumpi_parts *arguments,
+                                               const uint8_t *sort, size_t sort_length, const uint8_t *body, size_t body_length,
+                                               uint8_t *out, size_t out_length, uint64_t *length) {
+    return stazzumpi_define_fun(name, name_length, arguments->string, arguments->string_length, arguments->ends,
+                                arguments->ends_length, sort, sort_length, body, body_length, out, out_length, length, 1);
+}
+
+static inline uint64_t stazzumpi_declare_fun_of(const uint8_t *name, size_t name_length, const struct stazzumpi_parts *arguments,
+                                                const uint8_t *sort, size_t sort_length, uint8_t *out, size_t out_length,
+                                                uint64_t *length) {
+    return stazzumpi_declare_fun(name, name_length, arguments->string, arguments->string_length, arguments->ends,
+                                 arguments->ends_length, sort, sort_length, out, out_length, length, 1);
+}
+
+static inline uint64_t stazzumpi_declare_datatype_of(const uint8_t *name, size_t name_length,
+                                                     const struct stazzumpi_parts *parameters,
+                                                     const struct stazzumpi_parts *constructors, uint8_t *out, size_t out_length,
+                                                     uint64_t *length) {
+    return stazzumpi_declare_datatype(name, name_length, parameters->string, parameters->string_length, parameters->ends,
+                                      parameters->ends_length, constructors->string, constructors->string_length,
+                                      constructors->ends, constructors->ends_length, out, out_length, length, 1);
+}
 
 #ifdef __cplusplus
 }

@@ -14,21 +14,20 @@
 
 /* What the call is lent. */
 struct call {
-    const uint64_t *words[6];
-    const uint8_t *bytes[2];
-    size_t counts[8];
+    const struct stazzumpi_tables *tables;
+    const uint64_t *nodes;
+    size_t nodes_length;
+    const uint8_t *text;
+    size_t text_length;
     uint8_t *out;
     size_t out_length;
     uint64_t *told;
-    size_t told_length;
     uint64_t answer;
 };
 
 static void *run(void *lent) {
     struct call *c = lent;
-    c->answer = stazzumpi_list_model(c->words[0], c->counts[0], c->words[1], c->counts[1], c->words[2], c->counts[2], c->words[3],
-                                     c->counts[3], c->words[4], c->counts[4], c->bytes[0], c->counts[5], c->words[5], c->counts[6],
-                                     c->bytes[1], c->counts[7], c->out, c->out_length, c->told, c->told_length);
+    c->answer = stazzumpi_list_model_of(c->tables, c->nodes, c->nodes_length, c->text, c->text_length, c->out, c->out_length, c->told);
     return NULL;
 }
 
@@ -52,16 +51,13 @@ static size_t taken(void *(*work)(void *), void *lent) {
     return STACK - low;
 }
 
-static uint64_t painted(const uint64_t *sorts, size_t a, const uint64_t *fields, size_t b, const uint64_t *variables, size_t c,
-                        const uint64_t *functions, size_t d, const uint64_t *members, size_t e, const uint8_t *names, size_t f,
-                        const uint64_t *nodes, size_t g, const uint8_t *text, size_t h, uint8_t *out, size_t out_length,
-                        uint64_t *told, size_t told_length) {
-    struct call call = {{sorts, fields, variables, functions, members, nodes}, {names, text}, {a, b, c, d, e, f, g, h}, out,
-                        out_length, told, told_length, 0};
+static uint64_t painted(const struct stazzumpi_tables *tables, const uint64_t *nodes, size_t nodes_length, const uint8_t *text,
+                        size_t text_length, uint8_t *out, size_t out_length, uint64_t *told) {
+    struct call call = {tables, nodes, nodes_length, text, text_length, out, out_length, told, 0};
     size_t thread = taken(rest, NULL);
     fprintf(stderr, "%zu bytes of the stack in a room of %zu\n", taken(run, &call) - thread, out_length);
     return call.answer;
 }
 
-#define stazzumpi_list_model painted
+#define stazzumpi_list_model_of painted
 #include "../examples/c/listmodel.c"

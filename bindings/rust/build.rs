@@ -1,5 +1,4 @@
-//! Finds libstazzumpi.a in the folder that STAZZUMPI_LIB_DIR names, else where `rt staticlib stazzumpi` puts it in this
-//! project.
+//! Finds libstazzumpi.a in the folder that STAZZUMPI_LIB_DIR names, else where `make library` puts it in this project.
 
 use std::env;
 use std::path::{Path, PathBuf};
@@ -14,7 +13,7 @@ fn main() {
     let library = folder.join("libstazzumpi.a");
     if !library.is_file() {
         panic!(
-            "{} is not there: run `rt staticlib stazzumpi`, or name its folder in STAZZUMPI_LIB_DIR",
+            "{} is not there: run `make library` at the project's root, or name its folder in STAZZUMPI_LIB_DIR",
             library.display()
         );
     }

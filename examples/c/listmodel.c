@@ -8,78 +8,41 @@
 #define TABLE_WORDS (1024 * STAZZUMPI_ROW_WORDS)
 #define FIELD_WORDS 32768
 
-/* Words or bytes that are lent. */
-struct words {
-    uint64_t *at;
-    size_t count;
-};
-
-struct bytes {
-    uint8_t *at;
-    size_t count;
-};
-
-/* In the order in which calls take them and tell their words; `names` is the tables' text. */
-enum { SORTS, FIELDS, VARIABLES, FUNCTIONS, MEMBERS, TABLES };
-
-struct tables {
-    struct words rows[TABLES];
-    struct bytes names;
-};
-
-struct tree {
-    struct words nodes, stack;
-    struct bytes text;
-};
-
-static void lend_words(struct words *words, size_t count) {
-    free(words->at);
-    words->at = room(count, sizeof *words->at);
-    words->count = count;
+static uint64_t *lend_words(uint64_t *old, size_t *length, uint64_t count) {
+    free(old);
+    *length = (size_t)count;
+    return room((size_t)count, sizeof *old);
 }
 
-static void lend_bytes(struct bytes *bytes, size_t count) {
-    free(bytes->at);
-    bytes->at = room(count, 1);
-    bytes->count = count;
+static uint8_t *lend_bytes(uint8_t *old, size_t *length, uint64_t count) {
+    free(old);
+    *length = (size_t)count;
+    return room((size_t)count, 1);
 }
 
-static struct bytes file_bytes(const char *name) {
-    struct bytes bytes;
-    bytes.at = whole_file(name, &bytes.count);
-    return bytes;
-}
-
-static uint64_t read_tables(struct tables *t) {
-    uint64_t told[TABLES], r;
-    struct words *rows = t->rows;
-    int i;
-    for (i = 0; i < TABLES; i++) lend_words(&rows[i], i == FIELDS ? FIELD_WORDS : TABLE_WORDS);
-    r = stazzumpi_read_tables(t->names.at, t->names.count, rows[SORTS].at, rows[SORTS].count, rows[FIELDS].at, rows[FIELDS].count,
-                              rows[VARIABLES].at, rows[VARIABLES].count, rows[FUNCTIONS].at, rows[FUNCTIONS].count,
-                              rows[MEMBERS].at, rows[MEMBERS].count, told, TABLES);
-    for (i = 0; r == 0 && i < TABLES; i++) rows[i].count = (size_t)told[i];
-    return r;
+static struct stazzumpi_table_rooms table_rooms(void) {
+    struct stazzumpi_table_rooms rooms = {0};
+    rooms.sorts = lend_words(NULL, &rooms.sorts_length, TABLE_WORDS);
+    rooms.fields = lend_words(NULL, &rooms.fields_length, FIELD_WORDS);
+    rooms.variables = lend_words(NULL, &rooms.variables_length, TABLE_WORDS);
+    rooms.functions = lend_words(NULL, &rooms.functions_length, TABLE_WORDS);
+    rooms.members = lend_words(NULL, &rooms.members_length, TABLE_WORDS);
+    return rooms;
 }
 
 /* Lends nothing at first, and then what a refusal says is needed. */
-static uint64_t read_tree(struct bytes input, struct tree *tree) {
-    uint64_t told[3], r;
-    lend_words(&tree->nodes, 0);
-    lend_words(&tree->stack, 0);
-    lend_bytes(&tree->text, 0);
+static uint64_t read_tree(const uint8_t *input, size_t length, struct stazzumpi_tree_rooms *rooms, struct stazzumpi_tree *tree) {
     for (;;) {
-        r = stazzumpi_parse_sexpr(input.at, input.count, tree->nodes.at, tree->nodes.count, tree->text.at, tree->text.count,
-                                  tree->stack.at, tree->stack.count, told, 3);
+        uint64_t r = stazzumpi_parse_sexpr_in(input, length, rooms, tree);
         switch (STAZZUMPI_NUMBER(r)) {
         case STAZZUMPI_NodeRoom:
-            lend_words(&tree->nodes, STAZZUMPI_NODE_WORDS * (size_t)STAZZUMPI_DETAIL(r));
+            rooms->nodes = lend_words(rooms->nodes, &rooms->nodes_length, STAZZUMPI_NODE_WORDS * STAZZUMPI_DETAIL(r));
             break;
         case STAZZUMPI_TextRoom:
-            lend_bytes(&tree->text, (size_t)STAZZUMPI_DETAIL(r));
+            rooms->text = lend_bytes(rooms->text, &rooms->text_length, STAZZUMPI_DETAIL(r));
             break;
         case STAZZUMPI_DepthRoom:
-            lend_words(&tree->stack, (size_t)STAZZUMPI_DETAIL(r));
+            rooms->stack = lend_words(rooms->stack, &rooms->stack_length, STAZZUMPI_DETAIL(r));
             break;
         default:
             return r;
@@ -88,45 +51,49 @@ static uint64_t read_tree(struct bytes input, struct tree *tree) {
 }
 
 /* The same; the listing's length is told. */
-static uint64_t list_model(const struct tables *t, const struct tree *tree, struct bytes *out, uint64_t *length) {
-    const struct words *rows = t->rows;
-    uint64_t r;
-    lend_bytes(out, 0);
+static uint64_t list_model(const struct stazzumpi_tables *tables, const struct stazzumpi_tree_rooms *rooms, uint8_t **out,
+                           uint64_t *length) {
+    size_t lent = 0;
     for (;;) {
-        r = stazzumpi_list_model(rows[SORTS].at, rows[SORTS].count, rows[FIELDS].at, rows[FIELDS].count, rows[VARIABLES].at,
-                                 rows[VARIABLES].count, rows[FUNCTIONS].at, rows[FUNCTIONS].count, rows[MEMBERS].at,
-                                 rows[MEMBERS].count, t->names.at, t->names.count, tree->nodes.at, tree->nodes.count,
-                                 tree->text.at, tree->text.count, out->at, out->count, length, 1);
+        uint64_t r = stazzumpi_list_model_of(tables, rooms->nodes, rooms->nodes_length, rooms->text, rooms->text_length, *out, lent,
+                                             length);
         if (STAZZUMPI_NUMBER(r) != STAZZUMPI_OutRoom) return r;
-        lend_bytes(out, (size_t)STAZZUMPI_DETAIL(r));
+        *out = lend_bytes(*out, &lent, STAZZUMPI_DETAIL(r));
     }
 }
 
 int main(int count, char **arguments) {
-    struct tables tables = {0};
-    struct tree tree = {0};
-    struct bytes reply, out = {0};
+    struct stazzumpi_table_rooms rows;
+    struct stazzumpi_tables tables = {0};
+    struct stazzumpi_tree_rooms rooms = {0};
+    struct stazzumpi_tree tree = {0};
+    uint8_t *text, *reply, *out = NULL;
+    size_t text_length, reply_length;
     uint64_t length, r;
-    int i;
     if (count != 3) {
         fputs("usage: listmodel TABLES REPLY\n", stderr);
         return 2;
     }
-    tables.names = file_bytes(arguments[1]);
-    reply = file_bytes(arguments[2]);
-    r = read_tables(&tables);
-    if (r == 0) r = read_tree(reply, &tree);
-    if (r == 0) r = list_model(&tables, &tree, &out, &length);
+    text = whole_file(arguments[1], &text_length);
+    reply = whole_file(arguments[2], &reply_length);
+    rows = table_rooms();
+    r = stazzumpi_read_tables_in(text, text_length, &rows, &tables);
+    if (r == 0) r = read_tree(reply, reply_length, &rooms, &tree);
+    if (r == 0) r = list_model(&tables, &rooms, &out, &length);
     if (r == 0)
-        fwrite(out.at, 1, (size_t)length, stdout);
+        fwrite(out, 1, (size_t)length, stdout);
     else
         printf("refused=%d\ndetail=%" PRIu64 "\n", STAZZUMPI_NUMBER(r), STAZZUMPI_DETAIL(r));
-    for (i = 0; i < TABLES; i++) free(tables.rows[i].at);
-    free(tables.names.at);
-    free(reply.at);
-    free(tree.nodes.at);
-    free(tree.stack.at);
-    free(tree.text.at);
-    free(out.at);
+    free(rows.sorts);
+    free(rows.fields);
+    free(rows.variables);
+    free(rows.functions);
+    free(rows.members);
+    free(rooms.nodes);
+    free(rooms.stack);
+    free(rooms.text);
+    free(text);
+    free(reply);
+    free(out);
     return r == 0 ? 0 : 1;
 }

@@ -1,6 +1,8 @@
 //! The library's functions, as include/stazzumpi.h has them.
 
 extern "C" {
+    pub fn stazzumpi_version() -> u64;
+
     pub fn stazzumpi_decode_string(
         s: *const u8,
         s_length: usize,

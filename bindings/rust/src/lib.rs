@@ -1,34 +1,11 @@
-//! Stazzumpi: reading what an SMT solver answered, with proof.
-//!
-//! The library is written in Rattle, and each of its functions is proved to meet its contract for all inputs
-//! (docs/CONTRACTS.md). This crate calls it, over slices that are lent, and takes no memory of its own but the stack, save
-//! for [`models::list`], which reads and lists in one go. A refusal leaves every lent slice as it was.
-//!
-//! `libstazzumpi.a` is linked in, which `make library` writes for 64-bit Linux on x86-64 or Arm. The build looks for it in the
-//! folder that the environment variable `STAZZUMPI_LIB_DIR` names, else where that command puts it in this project.
-//!
-//! ```
-//! use stazzumpi::{parse_sexpr, Refusal};
-//!
-//! let reply = br#"(a #xF "b")"#;
-//! let (mut nodes, mut text, mut stack) = ([0; 16], [0; 2], [0; 1]);
-//!
-//! // too little room is refused with the need
-//! assert_eq!(parse_sexpr(reply, &mut nodes[..12], &mut text, &mut stack), Err(Refusal::NodeRoom(4)));
-//!
-//! let tree = parse_sexpr(reply, &mut nodes, &mut text, &mut stack)?;
-//! assert_eq!((tree.nodes, tree.text, tree.depth), (4, 2, 1));
-//! assert_eq!(nodes[..4], [5, 3, 4, 0]); // a list: three children, the node after its last is 4
-//! assert_eq!(nodes[8..12], [1, 4, u64::MAX, u64::MAX]); // a bit vector of width 4, sign-extended
-//! assert_eq!(&text, b"ab");
-//! # Ok::<(), Refusal>(())
-//! ```
+#![doc = include_str!("../README.md")]
 #![no_std]
 
 extern crate alloc;
 
 mod ffi;
 mod refusal;
+mod rooms;
 
 pub use refusal::Refusal;
 
@@ -70,8 +47,22 @@ macro_rules! call {
 }
 
 pub mod lines;
+pub mod listings;
 pub mod models;
 pub mod tables;
+pub mod trees;
+
+/// Major, minor and patch number of the library that is linked. It goes with this crate as long as the major number is
+/// this crate's, and while that is 0 the minor number too.
+///
+/// ```
+/// assert_eq!(stazzumpi::version(), (0, 2, 0));
+/// ```
+pub fn version() -> (u64, u64, u64) {
+    // SAFETY: it takes nothing and is lent nothing.
+    let version = unsafe { ffi::stazzumpi_version() };
+    (version >> 16, version >> 8 & 255, version & 255)
+}
 
 /// The text of what stands between the quotes of a string literal, at the front of `out`; answers its length.
 ///
@@ -88,10 +79,27 @@ pub fn decode_string(s: &[u8], out: &mut [u8]) -> Result<usize, Refusal> {
 }
 
 /// The tree of one S-expression, its nodes and text at the front of `nodes` and `text`. As many first entries of `stack`
-/// are zeroed as it has open brackets.
+/// are zeroed as it has open brackets. include/stazzumpi.h says what each word is; [`trees::Node`] reads them.
 ///
 /// Refusals: 9, 1 to 6 by the input, 10, 11, 12. An input of n bytes needs at most n nodes, 2 n bytes of text and n
 /// entries.
+///
+/// ```
+/// use stazzumpi::{parse_sexpr, Refusal};
+///
+/// let reply = br#"(a #xF "b")"#;
+/// let (mut nodes, mut text, mut stack) = ([0; 16], [0; 2], [0; 1]);
+///
+/// // too little room is refused with the need
+/// assert_eq!(parse_sexpr(reply, &mut nodes[..12], &mut text, &mut stack), Err(Refusal::NodeRoom(4)));
+///
+/// let tree = parse_sexpr(reply, &mut nodes, &mut text, &mut stack)?;
+/// assert_eq!((tree.nodes, tree.text, tree.depth), (4, 2, 1));
+/// assert_eq!(nodes[..4], [5, 3, 4, 0]); // a list: three children, the node after its last is 4
+/// assert_eq!(nodes[8..12], [1, 4, u64::MAX, u64::MAX]); // a bit vector of width 4, sign-extended
+/// assert_eq!(&text, b"ab");
+/// # Ok::<(), Refusal>(())
+/// ```
 pub fn parse_sexpr(input: &[u8], nodes: &mut [u64], text: &mut [u8], stack: &mut [u64]) -> Result<Tree, Refusal> {
     let [nodes, text, depth] = call!(stazzumpi_parse_sexpr(input; nodes, text, stack))?;
     Ok(Tree { nodes, text, depth })

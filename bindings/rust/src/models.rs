@@ -3,19 +3,21 @@
 //! ```
 //! let tables = b"sort=bool\nsort=bitvec 8\nsort=option 1\nvar=x 2\nfun=f 1 0\n";
 //! let reply = b"((define-fun x () (Option (_ BitVec 8)) (some #xfF)))";
-//! let listing = stazzumpi::models::list(tables, reply)?;
+//! let listing = stazzumpi::models::list(tables, reply, 10_000)?; // in at most 10,000 bytes
 //! assert_eq!(listing, b"vars=1\nfuns=0\nvar=x\nsort=2\nvalue=some(bv8:ff)\n");
 //! # Ok::<(), stazzumpi::Refusal>(())
 //! ```
 
-use alloc::{vec, vec::Vec};
+use alloc::vec::Vec;
 
+use crate::rooms::Budget;
 use crate::tables::{Tables, ROW_WORDS};
-use crate::{parse_sexpr, Refusal, NODE_WORDS};
+use crate::trees::Parsed;
+use crate::Refusal;
 
-/// The listing, at the front of `out`, of the tree at the front of `nodes` and `text`, as [`parse_sexpr`] leaves it;
-/// answers its length. Members of a set and arms of a function that are written again are in the need for `out` and not in
-/// the listing; the bytes between its end and the need are zeroed.
+/// The listing, at the front of `out`, of the tree at the front of `nodes` and `text`, as
+/// [`parse_sexpr`](crate::parse_sexpr) leaves it; answers its length. Members of a set and arms of a function that are
+/// written again are in the need for `out` and not in the listing; the bytes between its end and the need are zeroed.
 ///
 /// Refusals: 25, 27, 13 for a tree that is no list, that of the first command that has one (4, 7, 8, 13 to 24, 28), 26
 /// with the need where `out` is too short.
@@ -28,40 +30,54 @@ pub fn list_model(tables: &Tables<'_>, nodes: &[u64], text: &[u8], out: &mut [u8
     Ok(length)
 }
 
-/// The listing of a reply over the tables that a text spells, read and listed in memory of its own.
+/// The listing of a reply over the tables that a text spells, read and listed in memory of its own;
+/// [`Listing`](crate::listings::Listing) takes it apart.
 ///
-/// Refusals: those of [`Tables::read`], then of [`parse_sexpr`], then of [`list_model`], but none for want of room. It
-/// takes as much of the stack as they do, one after the other.
-pub fn list(tables: &[u8], reply: &[u8]) -> Result<Vec<u8>, Refusal> {
-    // enough for any text
-    let rows = || vec![0; 1024 * ROW_WORDS];
-    let (mut sorts, mut variables, mut functions, mut members) = (rows(), rows(), rows(), rows());
-    let mut fields = vec![0; 32_768];
+/// `limit` is how many bytes its rooms may have together at any time. Just enough are 40 for each row of the tables, 8 for
+/// each field of a record, 32 for each node of the reply's tree, one for each byte of its text, and the larger of two: 8 for
+/// each of the brackets that are open at once, which are given back when the reply is read, and one for each byte that
+/// [`list_model`] needs. With more, the listing's room may have as many bytes as the reply.
+///
+/// Refusals: those of [`Tables::read`], then of [`parse_sexpr`](crate::parse_sexpr), then of [`list_model`]. With less than
+/// enough it is refused by 26, 10, 11, 12 or 26, in this order, for the first room that the limit has no place for beside
+/// those before it, with that room's need as the library tells it: words of a table, nodes, bytes of text, brackets, bytes
+/// of the listing. So it is where the machine has no memory.
+///
+/// It takes as much of the stack as these calls do, one after the other.
+pub fn list(tables: &[u8], reply: &[u8], limit: usize) -> Result<Vec<u8>, Refusal> {
+    let mut budget = Budget::new(limit);
+    // a table without place has an empty room: the library says whether the text is lawful, and what is needed
+    let [mut sorts, mut fields, mut variables, mut functions, mut members] =
+        table_words(tables).map(|words| budget.room(words));
     let tables = Tables::read(tables, &mut sorts, &mut fields, &mut variables, &mut functions, &mut members)?;
-    let (nodes, text) = read(reply)?;
-    let mut out = vec![0; reply.len()]; // a guess; what is missing is told
+    let tree = Parsed::within(reply, &mut budget)?;
+    let mut out = budget.at_most(reply.len()); // a guess, for most listings enough
     loop {
-        match list_model(&tables, &nodes, &text, &mut out) {
+        match list_model(&tables, tree.nodes(), tree.text(), &mut out) {
             Ok(length) => {
                 out.truncate(length);
                 return Ok(out);
             }
-            Err(Refusal::OutRoom(need)) => out.resize(need, 0),
+            Err(short @ Refusal::OutRoom(need)) => budget.grow(&mut out, need, short)?,
             Err(refusal) => return Err(refusal),
         }
     }
 }
 
-/// The words and the text of a reply's tree.
-fn read(reply: &[u8]) -> Result<(Vec<u64>, Vec<u8>), Refusal> {
-    let (mut nodes, mut text, mut stack) = (vec![], vec![0; reply.len()], vec![0; 64]); // guesses too
-    loop {
-        match parse_sexpr(reply, &mut nodes, &mut text, &mut stack) {
-            Ok(_) => return Ok((nodes, text)),
-            Err(Refusal::NodeRoom(need)) => nodes.resize(NODE_WORDS * need, 0),
-            Err(Refusal::TextRoom(need)) => text.resize(need, 0),
-            Err(Refusal::DepthRoom(need)) => stack.resize(need, 0),
-            Err(refusal) => return Err(refusal),
+/// How many words the tables of a text have, fields second, where it is lawful: a row for each line that begins as the
+/// table's do, and a field for each space behind a record's name. Other texts are refused by 9 or 25, whatever is lent, and
+/// so rooms need be no larger than a lawful text's largest.
+fn table_words(text: &[u8]) -> [usize; 5] {
+    let (mut rows, mut fields) = ([0; 4], 0);
+    for line in text.split(|&byte| byte == b'\n') {
+        let labels: [&[u8]; 4] = [b"sort=", b"var=", b"fun=", b"enum="];
+        for (rows, label) in rows.iter_mut().zip(labels) {
+            *rows += usize::from(line.starts_with(label));
+        }
+        if let Some(record) = line.strip_prefix(b"sort=record ") {
+            fields += record.iter().filter(|&&byte| byte == b' ').count();
         }
     }
+    let [sorts, variables, functions, members] = rows.map(|rows: usize| ROW_WORDS * rows.min(1_024));
+    [sorts, fields.min(32_768), variables, functions, members]
 }

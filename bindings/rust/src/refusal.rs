@@ -6,29 +6,41 @@ macro_rules! refusals {
     ($($number:literal $name:ident $(($need:ident))? $what:literal,)*) => {
         /// Why a call refused. A case that names a need holds it: how much would have been enough.
         #[derive(Clone, Copy, Debug, PartialEq, Eq, Hash)]
+        #[non_exhaustive]
         pub enum Refusal {
             $(#[doc = concat!(stringify!($number), ": ", $what)] $name $(($need))?,)*
+            /// A number that this crate does not know, of a newer library, and its detail.
+            Unknown { number: u8, detail: usize },
         }
 
         impl Refusal {
-            /// Document 01's number, 1 to 28.
+            /// Document 01's number, 1 to 28, or the one that is unknown.
             pub fn number(self) -> u8 {
-                match self { $(refusals!(@pattern $name $($need)?) => $number,)* }
+                match self {
+                    $(refusals!(@pattern $name $($need)?) => $number,)*
+                    Refusal::Unknown { number, .. } => number,
+                }
             }
 
-            /// Document 01's name.
+            /// Document 01's name, or `Unknown`.
             pub fn name(self) -> &'static str {
-                match self { $(refusals!(@pattern $name $($need)?) => stringify!($name),)* }
+                match self {
+                    $(refusals!(@pattern $name $($need)?) => stringify!($name),)*
+                    Refusal::Unknown { .. } => "Unknown",
+                }
             }
 
             fn what(self) -> &'static str {
-                match self { $(refusals!(@pattern $name $($need)?) => $what,)* }
+                match self {
+                    $(refusals!(@pattern $name $($need)?) => $what,)*
+                    Refusal::Unknown { .. } => "this crate does not know the number; take one that is as new as the library",
+                }
             }
 
-            fn of(number: u8, need: usize) -> Option<Refusal> {
+            fn of(number: u8, detail: usize) -> Refusal {
                 match number {
-                    $($number => Some(refusals!(@value need $name $($need)?)),)*
-                    _ => None,
+                    $($number => refusals!(@value detail $name $($need)?),)*
+                    _ => Refusal::Unknown { number, detail },
                 }
             }
         }
@@ -71,31 +83,33 @@ refusals! {
 }
 
 impl Refusal {
-    /// The exact need for 10, 11, 12 and 26, else 0.
+    /// The exact need for 10, 11, 12 and 26, what the library told with an unknown number, else 0.
     pub fn detail(self) -> usize {
         match self {
             Refusal::NodeRoom(need) | Refusal::TextRoom(need) | Refusal::DepthRoom(need) | Refusal::OutRoom(need) => {
                 need
             }
+            Refusal::Unknown { detail, .. } => detail,
             _ => 0,
         }
     }
 
     /// The refusal of a word that is not 0: the number in the low byte, the detail in the seven above it.
     pub(crate) fn from_word(word: u64) -> Refusal {
-        match Refusal::of((word & 255) as u8, (word >> 8) as usize) {
-            Some(refusal) => refusal,
-            None => unreachable!("the library answers no other number"),
-        }
+        Refusal::of((word & 255) as u8, (word >> 8) as usize)
     }
 }
 
-/// Document 01's name, the need where there is one, and what to do.
+/// Document 01's name, or `Unknown` and the number; the detail where it is not 0; and what to do.
 impl fmt::Display for Refusal {
     fn fmt(&self, f: &mut fmt::Formatter<'_>) -> fmt::Result {
+        f.write_str(self.name())?;
+        if let Refusal::Unknown { number, .. } = self {
+            write!(f, " {number}")?;
+        }
         match self.detail() {
-            0 => write!(f, "{}: {}", self.name(), self.what()),
-            need => write!(f, "{} ({need}): {}", self.name(), self.what()),
+            0 => write!(f, ": {}", self.what()),
+            detail => write!(f, " ({detail}): {}", self.what()),
         }
     }
 }
@@ -104,6 +118,8 @@ impl core::error::Error for Refusal {}
 
 #[cfg(test)]
 mod tests {
+    use alloc::string::ToString;
+
     use super::*;
 
     /// Every number comes back from its word, and no word has another refusal's number.
@@ -113,6 +129,20 @@ mod tests {
             let refusal = Refusal::from_word(number + 256 * 7);
             assert_eq!(u64::from(refusal.number()), number);
             assert_eq!(refusal.detail(), if [10, 11, 12, 26].contains(&number) { 7 } else { 0 });
+            assert_ne!(refusal.name(), "Unknown");
         }
+    }
+
+    /// Any other number, with the largest detail, is told as it is.
+    #[test]
+    fn unknown_numbers() {
+        for number in (29..=255).chain([0]) {
+            let refusal = Refusal::from_word(u64::from(number) + (u64::MAX << 8));
+            assert_eq!(refusal, Refusal::Unknown { number, detail: (1 << 56) - 1 });
+            assert_eq!((refusal.number(), refusal.name(), refusal.detail()), (number, "Unknown", (1 << 56) - 1));
+        }
+        let told = Refusal::from_word(29 + 256 * 7).to_string();
+        assert!(told.starts_with("Unknown 29 (7): this crate does not know the number"), "{told}");
+        assert!(Refusal::from_word(255).to_string().starts_with("Unknown 255: "));
     }
 }

@@ -59,12 +59,12 @@ impl Wanted {
     }
 }
 
-/// What a lookup tells: 1 and a row, or 0 and 0.
+/// What a lookup tells: 1 and a row, or 0 and 0. One that is refused finds no row; with room for its numbers, which it has
+/// here, none is.
 fn row(answer: Result<[usize; 2], Refusal>) -> Option<usize> {
     match answer {
-        Ok([0, _]) => None,
+        Ok([0, _]) | Err(_) => None,
         Ok([_, row]) => Some(row),
-        Err(refusal) => unreachable!("a lookup with room for its numbers refuses nothing, not by {refusal}"),
     }
 }
 

@@ -1,16 +1,22 @@
 //! Listings: document 01's sample, refusals, rooms, document 01's answers from vectors/, and the real replies.
 
 use std::fs;
-use std::path::{Path, PathBuf};
 use std::thread;
 
-use stazzumpi::models::{list, list_model};
+use stazzumpi::models::{self, list_model};
 use stazzumpi::tables::Tables;
 use stazzumpi::{parse_sexpr, Refusal, NODE_WORDS};
+
+mod replies;
 
 const TABLES: &[u8] = include_bytes!("../../../crates/modellist/data/tables.txt");
 const REPLY: &[u8] = include_bytes!("../../../crates/modellist/stdin");
 const LISTING: &[u8] = include_bytes!("../../../crates/modellist/stdout");
+
+/// A listing in as much memory as it takes.
+fn list(tables: &[u8], reply: &[u8]) -> Result<Vec<u8>, Refusal> {
+    models::list(tables, reply, usize::MAX)
+}
 
 /// Hands on the tables of a text and the words and text of a reply's tree.
 fn with<R>(tables: &[u8], reply: &[u8], then: impl FnOnce(&Tables<'_>, &[u64], &[u8]) -> R) -> R {
@@ -166,19 +172,12 @@ const OTHERWISE: [(&str, u8); 6] = [
     ("shop-policy-1/cvc5-1.0.3.model.txt", 22),
 ];
 
-/// Every file of a folder and of those in it.
-fn files(folder: &Path) -> Vec<PathBuf> {
-    let entries = fs::read_dir(folder).expect("a folder").map(|entry| entry.expect("an entry").path());
-    entries.flat_map(|path| if path.is_dir() { files(&path) } else { vec![path] }).collect()
-}
-
 #[test]
 fn real_replies() {
-    let folder = Path::new(env!("CARGO_MANIFEST_DIR")).join("../../vectors/replies");
     let (mut replies, mut otherwise) = (0, 0);
-    for path in files(&folder).iter().filter(|path| path.to_string_lossy().ends_with(".model.txt")) {
+    for path in replies::models() {
         let tables = fs::read(path.with_file_name("tables.txt")).expect("tables");
-        let got = match list(&tables, &fs::read(path).expect("a reply")) {
+        let got = match list(&tables, &fs::read(&path).expect("a reply")) {
             Ok(listing) => listing,
             Err(refusal) => format!("refused={}\n", refusal.number()).into_bytes(),
         };

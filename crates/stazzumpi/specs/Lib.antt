@@ -1,3 +1,4 @@
 pub mod Exports
 pub mod Kind
 pub mod Outs
+pub mod Version

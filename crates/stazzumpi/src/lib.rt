@@ -5,3 +5,4 @@ mod models;
 mod rows;
 mod text;
 mod trees;
+mod version;

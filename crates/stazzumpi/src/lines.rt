@@ -120,18 +120,18 @@ pub extern "C" fn stazzumpi_declare_fun(
 pub extern "C" fn stazzumpi_declare_datatype(
     name: &[u8],
     parameters: &[u8],
-    stops: &[u64],
+    parameter_ends: &[u64],
     constructors: &[u8],
-    ends: &[u64],
+    constructor_ends: &[u64],
     out: &mut [u8],
     told: &mut [u64],
 ) -> u64
-    ensures { λ r. ⌜ WritesOut (scripted (now (name .entry) ∷ now (parameters .entry) ∷ now (stops .entry) ∷ now (constructors .entry) ∷ now (ends .entry) ∷ []) (endsRight (now (parameters .entry)) (now (stops .entry)) && endsRight (now (constructors .entry)) (now (ends .entry))) (declareDatatype (now (name .entry)) (parts (now (parameters .entry)) (now (stops .entry))) (parts (now (constructors .entry)) (now (ends .entry)))) (now (out .entry))) (now (told .entry)) (now (out .entry)) r (now (told .exit)) (now (out .exit)) ⌝ }
+    ensures { λ r. ⌜ WritesOut (scripted (now (name .entry) ∷ now (parameters .entry) ∷ now («parameter_ends» .entry) ∷ now (constructors .entry) ∷ now («constructor_ends» .entry) ∷ []) (endsRight (now (parameters .entry)) (now («parameter_ends» .entry)) && endsRight (now (constructors .entry)) (now («constructor_ends» .entry))) (declareDatatype (now (name .entry)) (parts (now (parameters .entry)) (now («parameter_ends» .entry))) (parts (now (constructors .entry)) (now («constructor_ends» .entry)))) (now (out .entry))) (now (told .entry)) (now (out .entry)) r (now (told .exit)) (now (out .exit)) ⌝ }
 {
     if told.len() < 1 {
         return code(Refusal::OutRoom(1));
     }
-    let answer = script::declare_datatype(name, parameters, stops, constructors, ends, out);
+    let answer = script::declare_datatype(name, parameters, parameter_ends, constructors, constructor_ends, out);
     tell_written(answer, told)
 }
 
