@@ -67,7 +67,7 @@ install: library
 	sed -e 's|@PREFIX@|$(PREFIX)|' -e 's|@VERSION@|$(VERSION)|' tools/stazzumpi.pc.in > "$(DESTDIR)$(PREFIX)/lib/pkgconfig/stazzumpi.pc"
 
 # Installs into a new folder, and compiles and runs the example there, out of a third one, by pkg-config alone. Needs pkg-config too.
-check-install: library
+check-install:
 	CC="$(CC)" sh tools/check-install.sh
 
 # How much of the stack the listing takes, on the models that docs/DECISIONS.md names. Needs the toolchain, a C compiler and Python.

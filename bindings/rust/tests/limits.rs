@@ -225,13 +225,14 @@ fn damaged_tables() {
     as_in_plenty(FULL_TABLES);
 }
 
-/// Bytes in the form of vectors/README.md: pieces between dots, `*N` behind one that goes on until it is N bytes long.
+/// Bytes in the form of vectors/README.md: pieces between dots, `*N` behind one that goes on until it is N bytes long, N in
+/// hexadecimal too.
 fn bytes(pieces: &str) -> Vec<u8> {
     let piece = |piece: &str| {
         let (hex, long) = piece.split_once('*').unwrap_or((piece, ""));
         let digits = |at| u8::from_str_radix(&hex[at..at + 2], 16).expect("a pair of digits");
         let bytes: Vec<u8> = (0..hex.len()).step_by(2).map(digits).collect();
-        let long = if long.is_empty() { bytes.len() } else { long.parse().expect("a number") };
+        let long = if long.is_empty() { bytes.len() } else { usize::from_str_radix(long, 16).expect("a number") };
         bytes.into_iter().cycle().take(long).collect::<Vec<u8>>()
     };
     pieces.split('.').flat_map(piece).collect()

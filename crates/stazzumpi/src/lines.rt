@@ -131,7 +131,14 @@ pub extern "C" fn stazzumpi_declare_datatype(
     if told.len() < 1 {
         return code(Refusal::OutRoom(1));
     }
-    let answer = script::declare_datatype(name, parameters, parameter_ends, constructors, constructor_ends, out);
+    let answer = script::declare_datatype(
+        name,
+        parameters,
+        parameter_ends,
+        constructors,
+        constructor_ends,
+        out,
+    );
     tell_written(answer, told)
 }
 
