@@ -30,7 +30,7 @@ use Rattle.tables_text.proofs.Meanings.{laid-means}
 use Rattle.tables_text.proofs.Stores.{fit-stored}
 use Rattle.tables_text.proofs.Readings.{passes-lawful, by-spelling}
 use Rattle.reply.specs.Reply.{byteLimit, within, Rooms, Walks, Replies}
-use Rattle.reply.specs.Read.{ReadsOn, Roomy, Filled}
+use Rattle.reply.specs.Read.{ReadsOn}
 
 -- each field takes at least two bytes of its line
 fields-half : (ss : List Sort) → length (allFields ss) * 2 ≤ length (lines sortLine ss)
@@ -45,6 +45,14 @@ sorts-within t =
       arith,
       length-append (lines sortLine (t .sorts)) (lines variableLine (t .variables) ++ (lines functionLine (t .functions) ++ lines memberLine (t .members))),
     )
+
+-- the rooms
+pub record Roomy (entry : Buffers) : Type 0 where
+  pub sorts : 5120 ≡ length (entry .sorts)
+  pub fields : 32768 ≡ length (entry .fields)
+  pub variables : 5120 ≡ length (entry .variables)
+  pub functions : 5120 ≡ length (entry .functions)
+  pub members : 5120 ≡ length (entry .members)
 
 laid-fits : (s : List ℕ) (t : Tables) → length s ≤ textLimit → Spells s t → (entry : Buffers) → Roomy entry → Fits (laid t s) entry
 unfolding laid
@@ -74,28 +82,25 @@ module _ (tables reply : List ℕ) where
   refused-long rooms out h = Replies.too-long h (record { answers = refl; holds = refl }) refl
 
 -- what reading the text in those rooms leaves
-module _ (tables reply : List ℕ) (r : TablesRead) (exit : Buffers) (filled : Filled tables reply r exit) where
-  abbrev entry : Buffers
-  entry = filled .entry
-
+module _ (tables : List ℕ) (entry : Buffers) (r : TablesRead) (exit : Buffers) (d : Reads tables entry r exit) (short : length tables ≤ byteLimit) (roomy : Roomy entry) where
   all-stored : (t : Tables) → Spells tables t → text.Leaves (stored entry (laid t tables)) r exit
   all-stored t s =
-      let p = filled .reads .spelled (filled .short) t s in
-      let q = fit-stored entry (laid t tables) (laid-fits tables t (filled .short) s entry (filled .roomy)) (stored entry (laid t tables) .answer) (stored entry (laid t tables) .holds) (record { answers = refl; holds = refl }) in
+      let p = d .spelled short t s in
+      let q = fit-stored entry (laid t tables) (laid-fits tables t short s entry roomy) (stored entry (laid t tables) .answer) (stored entry (laid t tables) .holds) (record { answers = refl; holds = refl }) in
       record { answers = p .answers ∙ sym (q .answers); holds = p .holds ∙ sym (q .holds) }
 
   -- a refusal is of a text that spells nothing
-  pub nothing-spelled : (out : List ℕ) (rooms : Rooms) (why : Refusal) → r ≡ TablesRead.Refused why → Replies tables reply rooms out (Written.Refused why) rooms out
-  nothing-spelled out rooms why e =
+  pub nothing-spelled : (reply out : List ℕ) (rooms : Rooms) (why : Refusal) → length reply ≤ byteLimit → r ≡ TablesRead.Refused why → Replies tables reply rooms out (Written.Refused why) rooms out
+  nothing-spelled reply out rooms why h e =
       by-spelling tables
       (λ t s.
       let q : TablesRead.Refused why ≡ stored entry (laid t tables) .answer = sym e ∙ all-stored t s .answers in
       let z : _≡_ {A = ℕ} 0 1 = cc in
       absurd (omega arith))
       (λ never.
-      let q : TablesRead.Refused why ≡ TablesRead.Refused BadTable = sym e ∙ filled .reads .other (filled .short) never .answers in
+      let q : TablesRead.Refused why ≡ TablesRead.Refused BadTable = sym e ∙ d .other short never .answers in
       let w : why ≡ BadTable = cc in
-      Replies.bad-table (both-short tables reply (filled .short) (filled .brief)) never (record { answers = ap Written.Refused w; holds = refl }) refl)
+      Replies.bad-table (both-short tables reply short h) never (record { answers = ap Written.Refused w; holds = refl }) refl)
 
   module _ (a b c e f : ℕ) (is : r ≡ TablesRead.Read a b c e f) where
     record Held : Type 0 where
@@ -116,7 +121,7 @@ module _ (tables reply : List ℕ) (r : TablesRead) (exit : Buffers) (filled : F
         let q : TablesRead.Read a b c e f ≡ stored entry (laid t tables) .answer = sym is ∙ p .answers in
         record { of = t; spells = s; size-1 = cc; size-2 = cc; size-3 = cc; size-4 = cc; size-5 = cc; holds = p .holds })
         (λ never.
-        let q : TablesRead.Read a b c e f ≡ TablesRead.Refused BadTable = sym is ∙ filled .reads .other (filled .short) never .answers in
+        let q : TablesRead.Read a b c e f ≡ TablesRead.Refused BadTable = sym is ∙ d .other short never .answers in
         let z : _≡_ {A = ℕ} 0 1 = cc in
         absurd (omega arith))
 
@@ -171,10 +176,10 @@ module _ (tables reply : List ℕ) (r : TablesRead) (exit : Buffers) (filled : F
         (front e (laid (h .of) tables .functions) (entry .functions) (exit .functions) (h .size-4) (ap (λ (x : Buffers). x .functions) (h .holds)))
         (front f (laid (h .of) tables .members) (entry .members) (exit .members) (h .size-5) (ap (λ (x : Buffers). x .members) (h .holds)))
 
-    pub spelled-walked : (out : List ℕ) (rooms after : Rooms) (answer : Written) (left : List ℕ) → ReadsOn lent reply rooms out answer after left → Replies tables reply rooms out answer after left
-    spelled-walked out rooms after answer left on =
+    pub spelled-walked : (reply out : List ℕ) (rooms after : Rooms) (answer : Written) (left : List ℕ) → length reply ≤ byteLimit → ReadsOn lent reply rooms out answer after left → Replies tables reply rooms out answer after left
+    spelled-walked reply out rooms after answer left h on =
         let k = held in
         let l : lent ≡ laid (k .of) tables = lent-laid k in
         let fine : passes lent ≡ true = ap passes l ∙ passes-lawful (k .of) tables (k .spells .same) ∙ k .spells .lawful in
         let means : tablesOf lent ≡ k .of = ap tablesOf l ∙ ap (λ (s : List ℕ). tablesOf (laid (k .of) s)) (k .spells .same) ∙ laid-means (k .of) in
-        Replies.spelled (both-short tables reply (filled .short) (filled .brief)) (k .of) (k .spells) (subst (λ (T : Tables). Walks T rooms reply out answer left) means (on .walks fine (filled .brief))) (on .leaves)
+        Replies.spelled (both-short tables reply short h) (k .of) (k .spells) (subst (λ (T : Tables). Walks T rooms reply out answer left) means (on .walks fine h)) (on .leaves)

@@ -9,7 +9,7 @@ use tables_text::read_tables;
 ghost use mathlib.Core.Path.{_≡_};
 ghost use lib.ListN.{length};
 ghost use Rattle.reply.specs.Reply.{Replies};
-ghost use Rattle.reply.specs.Read.{ReadsOn, Filled};
+ghost use Rattle.reply.specs.Read.{ReadsOn};
 
 // Of each of the two inputs.
 const LIMIT: usize = 65536;
@@ -65,51 +65,6 @@ fn list_text(
     }
 }
 
-// The reply over the tables that were read: of each room that part is lent on which its table takes.
-fn list_read(
-    read: TablesRead,
-    sorts: &[u64],
-    fields: &[u64],
-    variables: &[u64],
-    functions: &[u64],
-    members: &[u64],
-    tables: &[u8],
-    reply: &[u8],
-    nodes: &mut [u64],
-    text: &mut [u8],
-    stack: &mut [u64],
-    out: &mut [u8],
-) -> Written
-    requires { ⌜ Filled (now tables) (now reply) read (record { sorts = now sorts; fields = now fields; variables = now variables; functions = now functions; members = now members }) ⌝ }
-    ensures { λ r. ⌜ Replies (now (tables .entry)) (now (reply .entry)) (record { nodes = now (nodes .entry); text = now (text .entry); stack = now (stack .entry) }) (now (out .entry)) r (record { nodes = now (nodes .exit); text = now (text .exit); stack = now (stack .exit) }) (now (out .exit)) ⌝ }
-{
-    match read {
-        TablesRead::Read {
-            sorts: a,
-            fields: b,
-            variables: c,
-            functions: d,
-            members: e,
-        } => {
-            let zero = 0;
-            list_text(
-                &sorts[zero..a],
-                &fields[zero..b],
-                &variables[zero..c],
-                &functions[zero..d],
-                &members[zero..e],
-                tables,
-                reply,
-                nodes,
-                text,
-                stack,
-                out,
-            )
-        }
-        TablesRead::Refused(why) => Written::Refused(why),
-    }
-}
-
 // The listing of a reply over the tables that a text spells, the tree in the rooms that are lent for it.
 pub fn list_in(
     tables: &[u8],
@@ -140,18 +95,29 @@ pub fn list_in(
         &mut functions,
         &mut members,
     );
-    list_read(
-        read,
-        &sorts,
-        &fields,
-        &variables,
-        &functions,
-        &members,
-        tables,
-        reply,
-        nodes,
-        text,
-        stack,
-        out,
-    )
+    match read {
+        TablesRead::Read {
+            sorts: a,
+            fields: b,
+            variables: c,
+            functions: d,
+            members: e,
+        } => {
+            let zero = 0;
+            list_text(
+                &sorts[zero..a],
+                &fields[zero..b],
+                &variables[zero..c],
+                &functions[zero..d],
+                &members[zero..e],
+                tables,
+                reply,
+                nodes,
+                text,
+                stack,
+                out,
+            )
+        }
+        TablesRead::Refused(why) => Written::Refused(why),
+    }
 }
