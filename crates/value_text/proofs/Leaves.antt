@@ -2,7 +2,7 @@
 -- Assumes nothing.
 use mathlib.Core.Path.{_≡_, refl, sym, ap, ap₂, _∙_, subst}
 use mathlib.Core.Bool.{Bool, true, false, true≢false}
-use mathlib.Core.List.{List}
+use mathlib.Core.List.{List, [], _∷_}
 use mathlib.Core.Option.{Option, some}
 use Prim.Native.Nat.{ℕ, _+_, _-_, _%_, _^_, _≤_, _<_}
 use Prim.Native.String.{String}
@@ -13,6 +13,8 @@ use mir.Syntax.{w64}
 use mir.Val.{SFits}
 use mir.ValLaws.{toZ-ofZ}
 use borrow.Author.Tests.{le-leb}
+use types.Run.{OneOf, miss}
+use denote.Enum.Declared.{tagOf}
 use borrow.Rule.Slice.PartMut.{putMid, mid-len}
 use Rattle.ground.specs.Bytes.{bytes}
 use Rattle.ground.specs.Lists.{at}
@@ -32,6 +34,7 @@ use Rattle.decimals.specs.Decimal.{decimal, signedDecimal}
 use Rattle.decimals.proofs.Magnitudes.{back}
 use Rattle.arena.specs.declared.node.Node.{Node}
 use Rattle.arena.specs.Node.{nodeAt}
+use Rattle.arena.proofs.node.Node as NodeType
 use Rattle.arena.specs.Text.{textAt, sameText}
 use Rattle.tables.specs.declared.find.Found.{Found}
 use Rattle.tables.specs.declared.row.Range.{Range}
@@ -108,13 +111,21 @@ pub entity-text : (row : ℕ) (s : List ℕ) {a b c d e : List ℕ} {one two thr
 unfolding text
 entity-text row s f g h k = offers-then f (offers-then g (offers-then h k))
 
-abbrev pub isString : Node → Bool
+abbrev isString : Node → Bool
 isString (Node.BitVec width low high) = false
 isString (Node.Numeral low high) = false
 isString (Node.String size offset) = true
 isString (Node.Symbol size offset) = false
 isString (Node.App many next) = false
 isString Node.NoNode = false
+
+other-node : (n : Node) → OneOf (0 ∷ 1 ∷ 3 ∷ 4 ∷ 5 ∷ []) (tagOf NodeType.the-type n) → isString n ≡ false
+other-node (Node.BitVec width low high) h = refl
+other-node (Node.Numeral low high) h = refl
+other-node (Node.String size offset) h = absurd (miss (0 ∷ 1 ∷ 3 ∷ 4 ∷ 5 ∷ []) 2 tt h)
+other-node (Node.Symbol size offset) h = refl
+other-node (Node.App many next) h = refl
+other-node Node.NoNode h = refl
 
 -- a string at a node, and no string
 module _ (ws ts a b : List ℕ) (row i r : ℕ) where
@@ -126,8 +137,8 @@ module _ (ws ts a b : List ℕ) (row i r : ℕ) where
       let z : slice ≡ s = h ∙ sym (ap₂ (λ (x y : ℕ). textAt ts x y) q p) ∙ st .there .written in
       subst (λ (t : List ℕ). Offers a b 0 (text (vEntity row t)) r) z f
 
-  pub named-other : (n : Node) → n ≡ nodeAt ws i → isString n ≡ false → EntityText ws ts row i a b r
-  named-other n e h s st = absurd (true≢false (sym (ap isString (e ∙ st .there .here)) ∙ h))
+  pub named-other : (n : Node) → n ≡ nodeAt ws i → OneOf (0 ∷ 1 ∷ 3 ∷ 4 ∷ 5 ∷ []) (tagOf NodeType.the-type n) → EntityText ws ts row i a b r
+  named-other n e h s st = absurd (true≢false (sym (ap isString (e ∙ st .there .here)) ∙ other-node n h))
 
 -- an enum member, by the words of its row
 pub member-text : (members names a b : List ℕ) (i row first size r : ℕ) (range : Range) → row ≡ word members i 2 → first ≡ word members i 3 → size ≡ word members i 4 → Clamps first size (length names) range →

@@ -8,6 +8,8 @@ use Prim.Native.Nat.{ℕ, zero, suc, _+_, _-_, _^_, _≤_, _<_}
 use native.Mathlib.Omega.{arith}
 use lib.ListN.{length, take, drop}
 use borrow.Rule.Slice.PartMut.{putMid}
+use types.Run.{OneOf, miss}
+use denote.Enum.Declared.{tagOf}
 use Rattle.ground.specs.Bytes.{bytes}
 use Rattle.ground.specs.Lists.{joined}
 use Rattle.lent.specs.Put.{Offers}
@@ -18,6 +20,7 @@ use Rattle.arena.specs.Tree.{Tree, Trees}
 use Rattle.tables.specs.Layout.{Lent, tablesOf}
 use Rattle.tables.specs.Sort.{Tables}
 use Rattle.shapes.specs.declared.shape.Found.{Found}
+use Rattle.shapes.proofs.shape.Found as FoundType
 use Rattle.shapes.specs.Shape.{Shape, shape}
 use Rattle.shapes.specs.Shows.{Standing, Shows, ShapeAt}
 use Rattle.sorts.specs.Result.{ok}
@@ -40,7 +43,7 @@ use Rattle.value_text.proofs.Arms.{no-set, same-set, Reads, app-reads, 
 use Rattle.value_text.proofs.Closes.{length-closed}
 use Rattle.value_text.proofs.Lays.{lays-then, lays-put, lays-none, lays-as, laid-part, lays-part, wrote-front}
 
-abbrev pub setFound : Found → Bool
+abbrev setFound : Found → Bool
 setFound Found.Operator = false
 setFound (Found.AsNone sort) = false
 setFound (Found.AsSome sort value) = false
@@ -107,16 +110,33 @@ module _ (sorts members names ws ts : List ℕ) (i : ℕ) (found : Found) (at : 
         let m′ = subst (λ (x : Tree). read (tablesOf l) (suc below) e x ≡ ok k) (u .1) m in
         f l g (u .0) e k (at (u .0) s′) (app-reads (tablesOf l) below e k (u .0) m′) vs h row hs
 
-  pub members-other : (below : ℕ) (a : List ℕ) (place : ℕ) → setFound found ≡ false → WritesMembers sorts members names ws ts i below a a place place
+  members-other : (below : ℕ) (a : List ℕ) (place : ℕ) → setFound found ≡ false → WritesMembers sorts members names ws ts i below a a place place
   members-other below a place h = by-arm below a a place place (λ l g us e k w m vs q row hs.
       no-set (k .value) vs (other-shape (tablesOf l) below e k (shape us) m (shown-other (shape us) w h (tablesOf l) below e k)) q)
 
-  pub members-empty : (below : ℕ) (a : List ℕ) (place sort : ℕ) → found ≡ Found.AsEmpty sort → WritesMembers sorts members names ws ts i below a a place place
+  members-empty : (below : ℕ) (a : List ℕ) (place sort : ℕ) → found ≡ Found.AsEmpty sort → WritesMembers sorts members names ws ts i below a a place place
   unfolding run text normal
   members-empty below a place sort f = by-arm below a a place place (λ l g us e k w m vs q row hs.
       let x = subst (λ (y : Found). Shows ws ts y (shape us)) f w in
       let z : vNil ≡ vs = same-set vNil vs (as-empty (tablesOf l) below e k (x .0) (subst (λ (y : Shape). Reads (tablesOf l) below e k y) (x .1) m) ∙ q) in
       subst (λ (us : Values). Lays (run (texts us)) (run (texts (normals us))) a a place place) z (lays-none a place))
+
+  -- a set without members, and what is no set
+  pub members-else : (below : ℕ) (a : List ℕ) (place : ℕ) → OneOf (0 ∷ 1 ∷ 2 ∷ 3 ∷ 4 ∷ 7 ∷ 8 ∷ 9 ∷ 10 ∷ []) (tagOf FoundType.the-type found) → WritesMembers sorts members names ws ts i below a a place place
+  members-else below a place h = go found refl h
+    where
+      go : (f : Found) → found ≡ f → OneOf (0 ∷ 1 ∷ 2 ∷ 3 ∷ 4 ∷ 7 ∷ 8 ∷ 9 ∷ 10 ∷ []) (tagOf FoundType.the-type f) → WritesMembers sorts members names ws ts i below a a place place
+      go Found.Operator e h = members-other below a place (ap setFound e)
+      go (Found.AsNone sort) e h = members-other below a place (ap setFound e)
+      go (Found.AsSome sort value) e h = members-other below a place (ap setFound e)
+      go (Found.SomeOf value) e h = members-other below a place (ap setFound e)
+      go (Found.AsEmpty sort) e h = members-empty below a place sort e
+      go (Found.Singleton value) e h = absurd (miss (0 ∷ 1 ∷ 2 ∷ 3 ∷ 4 ∷ 7 ∷ 8 ∷ 9 ∷ 10 ∷ []) 5 tt h)
+      go (Found.Union left right) e h = absurd (miss (0 ∷ 1 ∷ 2 ∷ 3 ∷ 4 ∷ 7 ∷ 8 ∷ 9 ∷ 10 ∷ []) 6 tt h)
+      go (Found.Extension kind low) e h = members-other below a place (ap setFound e)
+      go (Found.Indexed offset size low high) e h = members-other below a place (ap setFound e)
+      go (Found.Made offset size first many) e h = members-other below a place (ap setFound e)
+      go Found.Other e h = members-other below a place (ap setFound e)
 
   pub members-one : (below : ℕ) (a b c : List ℕ) (place one r value : ℕ) → found ≡ Found.Singleton value → WritesInside sorts members names ws ts value below a b place one → Offers b c one (0 ∷ []) r →
       WritesMembers sorts members names ws ts i below a c place r

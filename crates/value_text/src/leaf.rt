@@ -110,26 +110,13 @@ pub fn write_named(nodes: &[u64], text: &[u8], row: usize, at: usize, out: &mut 
     ensures { λ r. ⌜ EntityText (now (nodes .entry)) (now (text .entry)) row at (now (out .entry)) (now (out .exit)) r ⌝ }
 {
     let node = node_at(nodes, at);
-    match node {
-        Node::BitVec {
-            width: _,
-            low: _,
-            high: _,
-        } => 0,
-        Node::Numeral { low: _, high: _ } => 0,
-        Node::String { size, offset } => {
-            let range = clamp(offset, size, text.len());
-            let start = range.start;
-            let end = range.end;
-            write_entity(row, &text[start..end], out)
-        }
-        Node::Symbol { size: _, offset: _ } => 0,
-        Node::App {
-            children: _,
-            end: _,
-        } => 0,
-        Node::NoNode => 0,
-    }
+    let Node::String { size, offset } = node else {
+        return 0;
+    };
+    let range = clamp(offset, size, text.len());
+    let start = range.start;
+    let end = range.end;
+    write_entity(row, &text[start..end], out)
 }
 
 // The member of a row.
