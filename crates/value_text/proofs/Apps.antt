@@ -14,7 +14,6 @@ use denote.Enum.Declared.{tagOf}
 use Rattle.ground.specs.Bytes.{bytes}
 use Rattle.ground.specs.Lists.{joined}
 use Rattle.lent.specs.Put.{Offers}
-use Rattle.lent.proofs.Offers.{offers-then}
 use Rattle.words.specs.declared.digits.Radix.{Radix}
 use Rattle.words.specs.Extension.{signed}
 use Rattle.words.specs.Run.{parsed}
@@ -102,9 +101,6 @@ unfolding text normal
 record-fielded T ws ts below first many row us vs s h =
     record { trees = us; fields = vs; there = s; reads = h; as-read = record-head row (texts vs); as-written = record-head row (texts (normals vs)) }
 
-pub record-opened : (row : ℕ) {a b c d : List ℕ} {one two r : ℕ} → Offers a b 0 (bytes "r") one → Offers b c one (decimal row) two → Offers c d two (bytes "(") r → Offers a d 0 (bytes "r" ++ (decimal row ++ bytes "(")) r
-record-opened row f g h = offers-then f (offers-then g h)
-
 module _ (sorts names ws ts : List ℕ) where
   -- (NAME ..), where NAME is the text there
   module _ (offset size first many : ℕ) (a b : List ℕ) (slice : List ℕ) (is : slice ≡ textAt ts offset size) (made-as : Made) (of : MadeOf sorts names slice made-as) where
@@ -189,10 +185,10 @@ module _ (sorts names ws ts : List ℕ) where
     shown-set (Found.Made offset size first many) h s w T below e k = absurd (miss (4 ∷ 5 ∷ 6 ∷ []) 9 tt h)
     shown-set Found.Other h s w T below e k = absurd (miss (4 ∷ 5 ∷ 6 ∷ []) 10 tt h)
 
-    pub app-set : OneOf (4 ∷ 5 ∷ 6 ∷ []) (tagOf FoundType.the-type found) → b ≡ a → OpensApp sorts names ws ts i a b Opened.Set
-    app-set h same = by-arm Opened.Set found refl (λ l p n us below x k w q row hs.
+    pub app-set : (place : ℕ) → OneOf (4 ∷ 5 ∷ 6 ∷ []) (tagOf FoundType.the-type found) → Offers a b 0 (bytes "{") place → OpensApp sorts names ws ts i a b (Opened.Set place)
+    app-set place h f = by-arm (Opened.Set place) found refl (λ l p n us below x k w q row hs.
         let z = set-shape (tablesOf l) below x k (shape us) q (shown-set found h (shape us) w (tablesOf l) below x k) in
-        (same, (z .0, sym (z .1))))
+        (f, (z .0, sym (z .1))))
 
     pub app-extension : (kind : Kind) (low r : ℕ) → found ≡ Found.Extension kind low → Offers a b 0 (text (vExt (extOf kind) (signed 64 low))) r → OpensApp sorts names ws ts i a b (Opened.Whole r)
     unfolding normal

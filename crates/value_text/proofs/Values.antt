@@ -27,8 +27,8 @@ use Rattle.well_sorted.proofs.Results.{refuses, ok-same, went}
 use Rattle.well_sorted.proofs.Readings.{Reading, r-true, r-false, r-member, reading}
 use Rattle.value_text.specs.declared.open.Opened.{Opened}
 use Rattle.value_text.specs.Leaf.{WordText}
-use Rattle.value_text.specs.Opened.{Opens, OpensValue, OpensApp}
-use Rattle.value_text.specs.Value.{Given, Writes, WritesValue, WritesSet, WritesFields}
+use Rattle.value_text.specs.Opened.{Opens, OpensValue, OpensApp, ClosesSet}
+use Rattle.value_text.specs.Value.{Given, WritesValue, WritesMembers, WritesFields}
 use Rattle.value_text.proofs.Apps.{writes-as, writes-plain}
 use Rattle.value_text.proofs.Lays.{lays-then, lays-put, lays-as, wrote-front}
 use Rattle.value_text.proofs.Sets.{up}
@@ -133,9 +133,10 @@ module _ (sorts members names ws ts : List ℕ) (i allow : ℕ) where
         (lays-as (sym (h .as-read)) (sym (h .as-written))
         (lays-then (lays-put (w .1)) (lays-then (f l g (h .trees) (h .there) (h .fields) (h .reads)) (lays-put p)))) room
 
-    pub value-set : o ≡ Opened.Set → (c : List ℕ) (r : ℕ) → WritesSet sorts members names ws ts i (allow - 1) b c r → WritesValue sorts members names ws ts i allow a c r
-    value-set is c r f l g t s e k m row hs =
-        let w = opened-as Opened.Set is l g t s e k m row hs in
+    pub value-set : (place : ℕ) → o ≡ Opened.Set place → (c d : List ℕ) (end r : ℕ) → WritesMembers sorts members names ws ts i (allow - 1) b c place end → ClosesSet c d place end r →
+        WritesValue sorts members names ws ts i allow a d r
+    value-set place is c d end r f p l g t s e k m row hs =
+        let w = opened-as (Opened.Set place) is l g t s e k m row hs in
         let hs′ = subst (λ (v : Value). HasSort v Loose (tablesOf l) row) (w .1 .1) hs in
-        writes-as (vSet (w .1 .0)) (k .value) (sym (w .1 .1)) a c r
-        (subst (λ (x : List ℕ). Writes (vSet (w .1 .0)) x c r) (w .0) (f l g t s e k (deeper l t e k m) (w .1 .0) (w .1 .1) (hs′ .0 .inner) (hs′ .0 .has)))
+        writes-as (vSet (w .1 .0)) (k .value) (sym (w .1 .1)) a d r
+        (p a b (w .0) (tablesOf l) (hs′ .0 .inner) (w .1 .0) (hs′ .0 .has) (f l g t s e k (deeper l t e k m) (w .1 .0) (w .1 .1) (hs′ .0 .inner) (hs′ .0 .has)))

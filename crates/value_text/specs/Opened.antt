@@ -1,10 +1,11 @@
--- Document 01, "The listing": what is left where a value was opened: the text of a value without another one in it, or what stands before the fields of the others.
+-- Document 01, "The listing": what is left where a value was opened: the text of a value without another one in it, or what stands before the fields or the members of the others; and a set closed.
 use mathlib.Core.Path.{_≡_}
 use mathlib.Core.List.{List, _++_}
 use mathlib.Core.Option.{Option}
 use Prim.Native.Nat.{ℕ, suc}
 use Rattle.ground.specs.Bytes.{bytes}
 use Rattle.lent.specs.Put.{Offers}
+use Rattle.runs.specs.Run.{run}
 use Rattle.arena.specs.Tree.{Tree, Trees, app}
 use Rattle.tables.specs.Layout.{Lent, tablesOf}
 use Rattle.tables.specs.Sort.{Tables}
@@ -15,9 +16,10 @@ use Rattle.sorts.specs.Sort.{readSort}
 use Rattle.values.specs.Value.{Value, Values, vSet}
 use Rattle.values.specs.Text.{text, texts}
 use Rattle.values.specs.Normal.{normal, normals}
-use Rattle.values.specs.HasSort.{HasSort, Loose}
+use Rattle.values.specs.HasSort.{HasSort, HaveSort, Loose}
 use Rattle.literals.specs.Literal.{Lit, read, appLit}
 use Rattle.value_text.specs.declared.open.Opened.{Opened}
+use Rattle.value_text.specs.Laid.{Lays}
 use Rattle.value_text.specs.Value.{Given, Listed, onward, Writes}
 
 -- the value's text is a head, the texts of the fields that stand from a node on, and `)`
@@ -32,7 +34,13 @@ pub record Fielded (T : Tables) (ws ts : List ℕ) (below first many : ℕ) (v :
 abbrev pub Opens : Tables → List ℕ → List ℕ → ℕ → Value → List ℕ → List ℕ → Opened → Type 0
 Opens T ws ts below v entry exit (Opened.Whole r) = Writes v entry exit r
 Opens T ws ts below v entry exit (Opened.Fields first many place) = (head : List ℕ) × (Offers entry exit 0 head place) × Fielded T ws ts below first many v head
-Opens T ws ts below v entry exit Opened.Set = (exit ≡ entry) × ((vs : Values) × (v ≡ vSet vs))
+Opens T ws ts below v entry exit (Opened.Set place) = (Offers entry exit 0 (bytes "{") place) × ((vs : Values) × (v ≡ vSet vs))
+
+-- a set closed, whose members were laid behind its first brace
+abbrev pub ClosesSet : List ℕ → List ℕ → ℕ → ℕ → ℕ → Type 0
+ClosesSet entry exit place end r =
+    (a b : List ℕ) → Offers a b 0 (bytes "{") place → (T : Tables) (row : ℕ) (vs : Values) → HaveSort vs Loose T row → Lays (run (texts vs)) (run (texts (normals vs))) b entry place end →
+    Writes (vSet vs) a exit r
 
 -- of the value that is read at a node with so many levels below it, and has a sort
 abbrev pub OpensValue : List ℕ → List ℕ → List ℕ → List ℕ → List ℕ → ℕ → List ℕ → List ℕ → Opened → Type 0

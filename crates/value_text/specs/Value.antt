@@ -61,7 +61,7 @@ module _ (sorts members names ws ts : List ℕ) where
   abbrev pub WritesInside : ℕ → ℕ → List ℕ → List ℕ → ℕ → ℕ → Type 0
   WritesInside i allow entry exit place r = ReadAt i allow (λ v. Lays (text v) (text (normal v)) entry exit place r)
 
-  -- the set at a node, with so many levels below it: its members, each ended, and the whole
+  -- the set at a node, with so many levels below it: its members, each ended
   abbrev pub SetAt : ℕ → ℕ → (Values → Type 0) → Type 0
   SetAt i below P =
       (l : Lent) → Given sorts members names l → (t : Tree) → Standing t ws ts i → (expected : Option ℕ) (k : Lit) → read (tablesOf l) (suc below) expected t ≡ ok k →
@@ -69,9 +69,6 @@ module _ (sorts members names ws ts : List ℕ) where
 
   abbrev pub WritesMembers : ℕ → ℕ → List ℕ → List ℕ → ℕ → ℕ → Type 0
   WritesMembers i below entry exit place r = SetAt i below (λ vs. Lays (run (texts vs)) (run (texts (normals vs))) entry exit place r)
-
-  abbrev pub WritesSet : ℕ → ℕ → List ℕ → List ℕ → ℕ → Type 0
-  WritesSet i below entry exit r = SetAt i below (λ vs. Writes (vSet vs) entry exit r)
 
   -- so many fields from a node on
   abbrev pub FieldsAt : ℕ → ℕ → ℕ → (Values → Type 0) → Type 0

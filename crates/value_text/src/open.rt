@@ -1,9 +1,9 @@
-// What is written of a value before the values inside it are: all of it, or what stands before its fields.
+// What is written of a value before the values inside it are: all of it, or what stands before its fields or its members.
 use crate::leaf::write_bits;
 use crate::leaf::write_extension;
+use crate::leaf::write_head;
 use crate::leaf::write_indexed;
 use crate::leaf::write_named;
-use crate::leaf::write_number;
 use crate::leaf::write_string;
 use crate::leaf::write_word;
 use crate::made::Made;
@@ -15,13 +15,9 @@ use shapes::Found;
 use shapes::shape_at;
 use tables::clamp;
 use words::Pair;
-ghost use mathlib.Core.List.{_++_};
-ghost use Rattle.ground.specs.Bytes.{bytes};
-ghost use Rattle.lent.specs.Put.{Offers};
-ghost use Rattle.decimals.specs.Decimal.{decimal};
 ghost use Rattle.value_text.specs.Opened.{OpensValue, OpensApp, OpensMade};
 
-// Of a value without another one in it how long its text is; the place after what stands before the fields, which `)` ends; of a set nothing.
+// Of a value without another one in it how long its text is; of the others the place after what stands before the fields, which `)` ends, or before the members.
 pub enum Opened {
     Whole(usize),
     Fields {
@@ -29,17 +25,10 @@ pub enum Opened {
         count: u64,
         place: usize,
     },
-    Set,
+    Set(usize),
 }
 
-// `r`, the row, `(`
-fn open_record(row: usize, out: &mut [u8]) -> usize
-    ensures { λ r. ⌜ Offers (now (out .entry)) (now (out .exit)) 0 (bytes "r" ++ (decimal row ++ bytes "(")) r ⌝ }
-{
-    let one = put(b"r", out, 0);
-    let two = write_number(row as u64, out, one);
-    put(b"(", out, two)
-}
+const PAREN: u8 = 40;
 
 // (NAME ..)
 fn open_made(
@@ -62,7 +51,7 @@ fn open_made(
     match made {
         Made::Entity(row) => Opened::Whole(write_named(nodes, text, row, first, out)),
         Made::Record(row) => {
-            let place = open_record(row, out);
+            let place = write_head(b"r", row as u64, PAREN, out);
             Opened::Fields {
                 first,
                 count,
@@ -99,7 +88,7 @@ fn open_app(
         },
         Found::AsEmpty { sort: _ }
         | Found::Singleton { value: _ }
-        | Found::Union { left: _, right: _ } => Opened::Set,
+        | Found::Union { left: _, right: _ } => Opened::Set(put(b"{", out, 0)),
         Found::Extension { kind, low } => Opened::Whole(write_extension(kind, low, out)),
         Found::Indexed {
             offset,

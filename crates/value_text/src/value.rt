@@ -1,7 +1,7 @@
 // The value writer, the members of a set and the fields of a record call each other: one level is spent on each value.
 use crate::open::Opened;
 use crate::open::open_value;
-use crate::set::close;
+use crate::set::close_set;
 use arena::after;
 use lent::put;
 use literals::plus;
@@ -9,7 +9,7 @@ use runs::END;
 use shapes::Found;
 use shapes::shape_at;
 ghost use Rattle.lent.specs.Put.{Offers};
-ghost use Rattle.value_text.specs.Value.{WritesValue, WritesInside, WritesMembers, WritesSet, WritesFields, comma};
+ghost use Rattle.value_text.specs.Value.{WritesValue, WritesInside, WritesMembers, WritesFields, comma};
 
 // The value at a node in the rest of the buffer from a place on; answers the place after it.
 pub fn write_inside(
@@ -108,43 +108,6 @@ fn write_members(
     }
 }
 
-// A set is written flat, and brought into order once.
-fn write_set(
-    sorts: &[u64],
-    members: &[u64],
-    names: &[u8],
-    nodes: &[u64],
-    text: &[u8],
-    at: usize,
-    below: usize,
-    scratch: &mut [u8],
-    out: &mut [u8],
-) -> usize
-    ensures { λ r. ⌜ WritesSet (now (sorts .entry)) (now (members .entry)) (now (names .entry)) (now (nodes .entry)) (now (text .entry)) at below (now (out .entry)) (now (out .exit)) r ⌝ }
-{
-    let one = put(b"{", out, 0);
-    let two = write_members(
-        sorts,
-        members,
-        names,
-        nodes,
-        text,
-        at,
-        below,
-        scratch,
-        out,
-        one,
-    );
-    if two <= one {
-        return put(b"}", out, one);
-    }
-    if out.len() < two {
-        return one;
-    }
-    let count = close(&mut out[one..two], scratch);
-    plus(one, count)
-}
-
 // What stands before field i.
 fn write_comma(i: usize, out: &mut [u8], place: usize) -> usize
     ensures { λ r. ⌜ Offers (now (out .entry)) (now (out .exit)) place (comma i) r ⌝ }
@@ -194,7 +157,7 @@ fn write_fields(
     to
 }
 
-// The value at a node at the front of what is lent, with so many levels; answers how long its text is. The scratch may have any length.
+// The value at a node at the front of what is lent, with so many levels; answers how long its text is. The members of a set are written as they stand, and brought into order once. The scratch may have any length.
 pub fn write_value(
     sorts: &[u64],
     members: &[u64],
@@ -234,16 +197,20 @@ pub fn write_value(
             );
             put(b")", out, end)
         }
-        Opened::Set => write_set(
-            sorts,
-            members,
-            names,
-            nodes,
-            text,
-            at,
-            allow - 1,
-            scratch,
-            out,
-        ),
+        Opened::Set(place) => {
+            let end = write_members(
+                sorts,
+                members,
+                names,
+                nodes,
+                text,
+                at,
+                allow - 1,
+                scratch,
+                out,
+                place,
+            );
+            close_set(out, place, end, scratch)
+        }
     }
 }

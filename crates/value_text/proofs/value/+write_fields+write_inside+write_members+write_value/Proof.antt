@@ -5,7 +5,7 @@ use lib.ListN.{length}
 use mathlib.Core.Path.{_≡_}
 use borrow.Author.Needs.{needs}
 use Rattle.value_text.proofs.Fields.{LeftAt, left-start, left-next, left-end}
-use Rattle.value_text.proofs.Sets.{members-else, members-one, members-nested, members-two, set-none, set-short, set-closed}
+use Rattle.value_text.proofs.Sets.{members-else, members-one, members-nested, members-two}
 use Rattle.value_text.proofs.Apps.{inside-past, inside-tail}
 use Rattle.value_text.proofs.Values.{value-nested, value-whole, value-fields, value-set}
 use Prim.Native.Nat.{ℕ, _<_}
@@ -13,30 +13,27 @@ use borrow.Fn.Kinds.{In}
 use borrow.Fn.PlainCycle.{Measures, is, falls, and}
 use Rattle.value_text.proofs.value.write_fields.Reads as write-fields
 use Rattle.value_text.proofs.value.write_fields.Kinds as write-fields-kinds
-use Rattle.value_text.proofs.value.+write_fields+write_inside+write_members+write_set+write_value.Lts-write_fields as write-fields-lts
+use Rattle.value_text.proofs.value.+write_fields+write_inside+write_members+write_value.Lts-write_fields as write-fields-lts
 use Rattle.value_text.proofs.value.write_inside.Reads as write-inside
 use Rattle.value_text.proofs.value.write_inside.Kinds as write-inside-kinds
-use Rattle.value_text.proofs.value.+write_fields+write_inside+write_members+write_set+write_value.Lts-write_inside as write-inside-lts
+use Rattle.value_text.proofs.value.+write_fields+write_inside+write_members+write_value.Lts-write_inside as write-inside-lts
 use Rattle.value_text.proofs.value.write_members.Reads as write-members
 use Rattle.value_text.proofs.value.write_members.Kinds as write-members-kinds
-use Rattle.value_text.proofs.value.+write_fields+write_inside+write_members+write_set+write_value.Lts-write_members as write-members-lts
-use Rattle.value_text.proofs.value.write_set.Reads as write-set
-use Rattle.value_text.proofs.value.write_set.Kinds as write-set-kinds
-use Rattle.value_text.proofs.value.+write_fields+write_inside+write_members+write_set+write_value.Lts-write_set as write-set-lts
+use Rattle.value_text.proofs.value.+write_fields+write_inside+write_members+write_value.Lts-write_members as write-members-lts
 use Rattle.value_text.proofs.value.write_value.Reads as write-value
 use Rattle.value_text.proofs.value.write_value.Kinds as write-value-kinds
-use Rattle.value_text.proofs.value.+write_fields+write_inside+write_members+write_set+write_value.Lts-write_value as write-value-lts
+use Rattle.value_text.proofs.value.+write_fields+write_inside+write_members+write_value.Lts-write_value as write-value-lts
 use Rattle.arena.proofs.after.Reads as after-reads
 use Rattle.lent.proofs.put.Reads as put-reads
 use Rattle.literals.proofs.plus.Reads as plus-reads
 use Rattle.shapes.proofs.shape_at.Reads as shape-at-reads
 use Rattle.value_text.proofs.open.open_value.Reads as open-value-reads
-use Rattle.value_text.proofs.set.close.Reads as close-reads
+use Rattle.value_text.proofs.set.close_set.Reads as close-set-reads
 use Rattle.value_text.proofs.value.write_comma.Reads as write-comma-reads
-use Rattle.value_text.proofs.value.+write_fields+write_inside+write_members+write_set+write_value.{
+use Rattle.value_text.proofs.value.+write_fields+write_inside+write_members+write_value.{
   statement,
 }
-use Rattle.value_text.proofs.value.+write_fields+write_inside+write_members+write_set+write_value.Tie.{
+use Rattle.value_text.proofs.value.+write_fields+write_inside+write_members+write_value.Tie.{
   close,
 }
 
@@ -48,9 +45,6 @@ abbrev μ-write-inside : Measures 7 write-inside-kinds.ps ℕ
 
 abbrev μ-write-members : Measures 7 write-members-kinds.ps ℕ
 μ-write-members κs a = 6 * (a .1 .1 .1 .1 .1 .1 .0) + 2
-
-abbrev μ-write-set : Measures 7 write-set-kinds.ps ℕ
-μ-write-set κs a = 6 * (a .1 .1 .1 .1 .1 .1 .0) + 3
 
 abbrev μ-write-value : Measures 7 write-value-kinds.ps ℕ
 μ-write-value κs a = 6 * (a .1 .1 .1 .1 .1 .1 .0)
@@ -91,13 +85,6 @@ write-members-below t =
     (falls 7 write-members-kinds.ps _<_ μ-write-members t)
     write-members.Pre
 
-abbrev write-set-at : ℕ → In 7 write-set-kinds.ps
-write-set-at t = and 7 write-set-kinds.ps (is 7 write-set-kinds.ps μ-write-set t) write-set.Pre
-
-abbrev write-set-below : ℕ → In 7 write-set-kinds.ps
-write-set-below t =
-    and 7 write-set-kinds.ps (falls 7 write-set-kinds.ps _<_ μ-write-set t) write-set.Pre
-
 abbrev write-value-at : ℕ → In 7 write-value-kinds.ps
 write-value-at t =
     and 7 write-value-kinds.ps (is 7 write-value-kinds.ps μ-write-value t) write-value.Pre
@@ -114,7 +101,7 @@ abbrev write-fields-μ-loop : write-fields-lts.MeasureT-loop
 write-fields-μ-loop sorts members names nodes text first count allow scratch₀ out₀ place at₀ to₀ i₀ scratch out at to i =
     count - i
 
--- src/value.rt:177:5
+-- src/value.rt:140:5
 write-fields-loop-holds : (t : ℕ) → write-fields-lts.Need-loop-holds (
   write-comma-reads.Asked,
   write-comma-reads.Learnt,
@@ -125,7 +112,7 @@ write-fields-loop-holds : (t : ℕ) → write-fields-lts.Need-loop-holds (
 ) (write-fields-at t) write-fields.Post write-fields-Inv-loop write-fields-μ-loop
 write-fields-loop-holds t c = let a = c .before .before .before .before .before .before .before .args in (omega arith, refl, refl, left-start (a .sorts .now) (a .members .now) (a .names .now) (a .nodes .now) (a .text .now) (a .first) (a .count) (a .allow) (a .out .now) (a .place))
 
--- src/value.rt:178:13
+-- src/value.rt:141:13
 write-fields-write-comma-requires : (t : ℕ) → write-fields-lts.Need-write-comma-requires (
   write-comma-reads.Asked,
   write-comma-reads.Learnt,
@@ -136,7 +123,7 @@ write-fields-write-comma-requires : (t : ℕ) → write-fields-lts.Need-write-co
 ) (write-fields-at t) write-fields.Post write-fields-Inv-loop write-fields-μ-loop
 write-fields-write-comma-requires t c κs = search needs
 
--- src/value.rt:179:9
+-- src/value.rt:142:9
 write-fields-write-inside-requires : (t : ℕ) → write-fields-lts.Need-write-inside-requires (
   write-comma-reads.Asked,
   write-comma-reads.Learnt,
@@ -147,7 +134,7 @@ write-fields-write-inside-requires : (t : ℕ) → write-fields-lts.Need-write-i
 ) (write-fields-at t) write-fields.Post write-fields-Inv-loop write-fields-μ-loop
 write-fields-write-inside-requires t c κs = search needs
 
--- src/value.rt:191:9
+-- src/value.rt:154:9
 write-fields-after-requires : (t : ℕ) → write-fields-lts.Need-after-requires (
   write-comma-reads.Asked,
   write-comma-reads.Learnt,
@@ -158,7 +145,7 @@ write-fields-after-requires : (t : ℕ) → write-fields-lts.Need-after-requires
 ) (write-fields-at t) write-fields.Post write-fields-Inv-loop write-fields-μ-loop
 write-fields-after-requires t c κs = search needs
 
--- src/value.rt:192:9
+-- src/value.rt:155:9
 write-fields-add-i : (t : ℕ) → write-fields-lts.Need-add-i (
   write-comma-reads.Asked,
   write-comma-reads.Learnt,
@@ -169,7 +156,7 @@ write-fields-add-i : (t : ℕ) → write-fields-lts.Need-add-i (
 ) (write-fields-at t) write-fields.Post write-fields-Inv-loop write-fields-μ-loop
 write-fields-add-i t c = search needs
 
--- src/value.rt:177:5
+-- src/value.rt:140:5
 write-fields-loop-less : (t : ℕ) → write-fields-lts.Need-loop-less (
   write-comma-reads.Asked,
   write-comma-reads.Learnt,
@@ -180,7 +167,7 @@ write-fields-loop-less : (t : ℕ) → write-fields-lts.Need-loop-less (
 ) (write-fields-at t) write-fields.Post write-fields-Inv-loop write-fields-μ-loop
 write-fields-loop-less t c = search needs
 
--- src/value.rt:177:5
+-- src/value.rt:140:5
 write-fields-loop-again : (t : ℕ) → write-fields-lts.Need-loop-again (
   write-comma-reads.Asked,
   write-comma-reads.Learnt,
@@ -191,7 +178,7 @@ write-fields-loop-again : (t : ℕ) → write-fields-lts.Need-loop-again (
 ) (write-fields-at t) write-fields.Post write-fields-Inv-loop write-fields-μ-loop
 write-fields-loop-again t c = let a = c .before .before .before .before .before .before .before .before .before .before .before .before .before .before .before .before .before .before .before .before .before .args in (omega arith, c .before .before .before .before .before .write-inside .kept .1 .1 .1 .1 .1 .1 .1 .0 ∙ c .before .before .before .before .before .before .before .before .before .before .before .before .before .loop .inv .1, c .before .before .before .before .before .write-inside .kept .1 .1 .1 .1 .1 .1 .1 .1 .0 ∙ c .before .before .before .before .before .before .before .before .before .before .write-comma .kept .1 .0 ∙ c .before .before .before .before .before .before .before .before .before .before .before .before .before .loop .inv .2, left-next (a .sorts .now) (a .members .now) (a .names .now) (a .nodes .now) (a .text .now) (a .first) (a .count) (a .allow) (a .out .now) (a .place) _ _ _ _ (c .before .before .before .before .before .before .before .before .before .before .before .before .before .loop .inv .3) (c .before .before .before .before .before .before .before .before .before .before .before .before .loop-test .taken) _ _ _ _ (c .before .before .before .before .before .before .before .before .before .before .write-comma .ensures) (c .before .before .before .before .before .write-inside .ensures) _ (c .after .ensures))
 
--- src/value.rt:159:1
+-- src/value.rt:122:1
 write-fields-same-length : (t : ℕ) → write-fields-lts.Need-same-length (
   write-comma-reads.Asked,
   write-comma-reads.Learnt,
@@ -202,7 +189,7 @@ write-fields-same-length : (t : ℕ) → write-fields-lts.Need-same-length (
 ) (write-fields-at t) write-fields.Post write-fields-Inv-loop write-fields-μ-loop
 write-fields-same-length t c = c .before .loop .inv .1
 
--- src/value.rt:159:1
+-- src/value.rt:122:1
 write-fields-same-length-2 : (t : ℕ) → write-fields-lts.Need-same-length-2 (
   write-comma-reads.Asked,
   write-comma-reads.Learnt,
@@ -213,7 +200,7 @@ write-fields-same-length-2 : (t : ℕ) → write-fields-lts.Need-same-length-2 (
 ) (write-fields-at t) write-fields.Post write-fields-Inv-loop write-fields-μ-loop
 write-fields-same-length-2 t c = c .before .loop .inv .2
 
--- src/value.rt:159:1
+-- src/value.rt:122:1
 write-fields-returns : (t : ℕ) → write-fields-lts.Need-returns (
   write-comma-reads.Asked,
   write-comma-reads.Learnt,
@@ -539,254 +526,7 @@ write-members-returns-4 : (t : ℕ) → write-members-lts.Need-returns-4 (
 ) (write-members-at t) write-members.Post
 write-members-returns-4 t c = let a = c .before .before .before .before .before .before .before .before .before .args in members-else (a .sorts .now) (a .members .now) (a .names .now) (a .nodes .now) (a .text .now) (a .at) (c .before .shape-at .result) (c .before .shape-at .ensures) (a .below) _ _ (c .match .keys3)
 
--- src/value.rt:125:19
-write-set-slice-aggregate-put : (t : ℕ) → write-set-lts.Need-slice-aggregate-put (
-  put-reads.Asked,
-  put-reads.Learnt,
-  write-members-below t,
-  write-members.Post,
-  close-reads.Asked,
-  close-reads.Learnt,
-  plus-reads.Asked,
-  plus-reads.Learnt,
-) (write-set-at t) write-set.Post
-write-set-slice-aggregate-put t c = search needs
-
--- src/value.rt:125:9
-write-set-put-requires : (t : ℕ) → write-set-lts.Need-put-requires (
-  put-reads.Asked,
-  put-reads.Learnt,
-  write-members-below t,
-  write-members.Post,
-  close-reads.Asked,
-  close-reads.Learnt,
-  plus-reads.Asked,
-  plus-reads.Learnt,
-) (write-set-at t) write-set.Post
-write-set-put-requires t c κs = search needs
-
--- src/value.rt:126:9
-write-set-write-members-requires : (t : ℕ) → write-set-lts.Need-write-members-requires (
-  put-reads.Asked,
-  put-reads.Learnt,
-  write-members-below t,
-  write-members.Post,
-  close-reads.Asked,
-  close-reads.Learnt,
-  plus-reads.Asked,
-  plus-reads.Learnt,
-) (write-set-at t) write-set.Post
-write-set-write-members-requires t c κs = search needs
-
--- src/value.rt:139:20
-write-set-slice-aggregate-put-2 : (t : ℕ) → write-set-lts.Need-slice-aggregate-put-2 (
-  put-reads.Asked,
-  put-reads.Learnt,
-  write-members-below t,
-  write-members.Post,
-  close-reads.Asked,
-  close-reads.Learnt,
-  plus-reads.Asked,
-  plus-reads.Learnt,
-) (write-set-at t) write-set.Post
-write-set-slice-aggregate-put-2 t c = search needs
-
--- src/value.rt:139:9
-write-set-put-requires-2 : (t : ℕ) → write-set-lts.Need-put-requires-2 (
-  put-reads.Asked,
-  put-reads.Learnt,
-  write-members-below t,
-  write-members.Post,
-  close-reads.Asked,
-  close-reads.Learnt,
-  plus-reads.Asked,
-  plus-reads.Learnt,
-) (write-set-at t) write-set.Post
-write-set-put-requires-2 t c κs = search needs
-
--- src/value.rt:139:9
-write-set-same-length : (t : ℕ) → write-set-lts.Need-same-length (
-  put-reads.Asked,
-  put-reads.Learnt,
-  write-members-below t,
-  write-members.Post,
-  close-reads.Asked,
-  close-reads.Learnt,
-  plus-reads.Asked,
-  plus-reads.Learnt,
-) (write-set-at t) write-set.Post
-write-set-same-length t c = search needs
-
--- src/value.rt:139:9
-write-set-same-length-2 : (t : ℕ) → write-set-lts.Need-same-length-2 (
-  put-reads.Asked,
-  put-reads.Learnt,
-  write-members-below t,
-  write-members.Post,
-  close-reads.Asked,
-  close-reads.Learnt,
-  plus-reads.Asked,
-  plus-reads.Learnt,
-) (write-set-at t) write-set.Post
-write-set-same-length-2 t c = search needs
-
--- src/value.rt:139:9
-write-set-returns : (t : ℕ) → write-set-lts.Need-returns (
-  put-reads.Asked,
-  put-reads.Learnt,
-  write-members-below t,
-  write-members.Post,
-  close-reads.Asked,
-  close-reads.Learnt,
-  plus-reads.Asked,
-  plus-reads.Learnt,
-) (write-set-at t) write-set.Post
-write-set-returns t c = let a = c .before .before .before .before .before .before .before .before .before .before .before .before .before .before .before .before .before .before .before .before .before .before .before .before .before .args in set-none (a .sorts .now) (a .members .now) (a .names .now) (a .nodes .now) (a .text .now) (a .at) (a .below) _ _ _ _ _ (c .before .before .before .before .before .before .before .before .before .before .before .before .before .before .before .put .ensures) (c .before .before .before .before .before .before .before .before .before .before .write-members .ensures) (c .before .before .before .before .before .if1 .taken) _ _ (c .before .before .put2 .ensures)
-
--- src/value.rt:142:9
-write-set-same-length-3 : (t : ℕ) → write-set-lts.Need-same-length-3 (
-  put-reads.Asked,
-  put-reads.Learnt,
-  write-members-below t,
-  write-members.Post,
-  close-reads.Asked,
-  close-reads.Learnt,
-  plus-reads.Asked,
-  plus-reads.Learnt,
-) (write-set-at t) write-set.Post
-write-set-same-length-3 t c = search needs
-
--- src/value.rt:142:9
-write-set-same-length-4 : (t : ℕ) → write-set-lts.Need-same-length-4 (
-  put-reads.Asked,
-  put-reads.Learnt,
-  write-members-below t,
-  write-members.Post,
-  close-reads.Asked,
-  close-reads.Learnt,
-  plus-reads.Asked,
-  plus-reads.Learnt,
-) (write-set-at t) write-set.Post
-write-set-same-length-4 t c = search needs
-
--- src/value.rt:142:9
-write-set-returns-2 : (t : ℕ) → write-set-lts.Need-returns-2 (
-  put-reads.Asked,
-  put-reads.Learnt,
-  write-members-below t,
-  write-members.Post,
-  close-reads.Asked,
-  close-reads.Learnt,
-  plus-reads.Asked,
-  plus-reads.Learnt,
-) (write-set-at t) write-set.Post
-write-set-returns-2 t c = let a = c .before .before .before .before .before .before .before .before .before .before .before .before .before .before .before .before .before .before .before .before .before .args in set-short (a .sorts .now) (a .members .now) (a .names .now) (a .nodes .now) (a .text .now) (a .at) (a .below) _ _ _ _ _ (c .before .before .before .before .before .before .before .before .before .before .before .put .ensures) (c .before .before .before .before .before .before .write-members .ensures) (c .if2 .taken) _ _
-
--- src/value.rt:144:23
-write-set-sub-close : (t : ℕ) → write-set-lts.Need-sub-close (
-  put-reads.Asked,
-  put-reads.Learnt,
-  write-members-below t,
-  write-members.Post,
-  close-reads.Asked,
-  close-reads.Learnt,
-  plus-reads.Asked,
-  plus-reads.Learnt,
-) (write-set-at t) write-set.Post
-write-set-sub-close t c = search needs
-
--- src/value.rt:144:23
-write-set-part-close-start : (t : ℕ) → write-set-lts.Need-part-close-start (
-  put-reads.Asked,
-  put-reads.Learnt,
-  write-members-below t,
-  write-members.Post,
-  close-reads.Asked,
-  close-reads.Learnt,
-  plus-reads.Asked,
-  plus-reads.Learnt,
-) (write-set-at t) write-set.Post
-write-set-part-close-start t c = search needs
-
--- src/value.rt:144:23
-write-set-part-close-end : (t : ℕ) → write-set-lts.Need-part-close-end (
-  put-reads.Asked,
-  put-reads.Learnt,
-  write-members-below t,
-  write-members.Post,
-  close-reads.Asked,
-  close-reads.Learnt,
-  plus-reads.Asked,
-  plus-reads.Learnt,
-) (write-set-at t) write-set.Post
-write-set-part-close-end t c = search needs
-
--- src/value.rt:144:9
-write-set-close-requires : (t : ℕ) → write-set-lts.Need-close-requires (
-  put-reads.Asked,
-  put-reads.Learnt,
-  write-members-below t,
-  write-members.Post,
-  close-reads.Asked,
-  close-reads.Learnt,
-  plus-reads.Asked,
-  plus-reads.Learnt,
-) (write-set-at t) write-set.Post
-write-set-close-requires t c κs = search needs
-
--- src/value.rt:145:5
-write-set-plus-requires : (t : ℕ) → write-set-lts.Need-plus-requires (
-  put-reads.Asked,
-  put-reads.Learnt,
-  write-members-below t,
-  write-members.Post,
-  close-reads.Asked,
-  close-reads.Learnt,
-  plus-reads.Asked,
-  plus-reads.Learnt,
-) (write-set-at t) write-set.Post
-write-set-plus-requires t c κs = search needs
-
--- src/value.rt:112:1
-write-set-same-length-5 : (t : ℕ) → write-set-lts.Need-same-length-5 (
-  put-reads.Asked,
-  put-reads.Learnt,
-  write-members-below t,
-  write-members.Post,
-  close-reads.Asked,
-  close-reads.Learnt,
-  plus-reads.Asked,
-  plus-reads.Learnt,
-) (write-set-at t) write-set.Post
-write-set-same-length-5 t c = search needs
-
--- src/value.rt:112:1
-write-set-same-length-6 : (t : ℕ) → write-set-lts.Need-same-length-6 (
-  put-reads.Asked,
-  put-reads.Learnt,
-  write-members-below t,
-  write-members.Post,
-  close-reads.Asked,
-  close-reads.Learnt,
-  plus-reads.Asked,
-  plus-reads.Learnt,
-) (write-set-at t) write-set.Post
-write-set-same-length-6 t c = search needs
-
--- src/value.rt:112:1
-write-set-returns-3 : (t : ℕ) → write-set-lts.Need-returns-3 (
-  put-reads.Asked,
-  put-reads.Learnt,
-  write-members-below t,
-  write-members.Post,
-  close-reads.Asked,
-  close-reads.Learnt,
-  plus-reads.Asked,
-  plus-reads.Learnt,
-) (write-set-at t) write-set.Post
-write-set-returns-3 t c = let a = c .before .before .before .before .before .before .before .before .before .before .before .before .before .before .before .before .before .before .before .before .before .before .before .before .before .before .before .before .before .args in set-closed (a .sorts .now) (a .members .now) (a .names .now) (a .nodes .now) (a .text .now) (a .at) (a .below) _ _ _ _ _ (c .before .before .before .before .before .before .before .before .before .before .before .before .before .before .before .before .before .before .before .put .ensures) (c .before .before .before .before .before .before .before .before .before .before .before .before .before .before .write-members .ensures) (c .before .before .before .before .before .before .before .before .before .if1 .left) (c .before .before .before .before .before .before .before .before .if2 .left) (c .before .before .before .before .before .before .before .before .before .before .before .before .before .before .before .before .before .before .before .before .before .before .before .before .before .before .before .before .before .good .1 .1 .1 .1 .1 .1 .1 .1 .0 .0) _ _ _ (c .before .before .before .before .before .close .kept .0) (c .before .before .before .before .before .close .ensures) (c .plus .ensures)
-
--- src/value.rt:212:9
+-- src/value.rt:175:9
 write-value-returns : (t : ℕ) → write-value-lts.Need-returns (
   open-value-reads.Asked,
   open-value-reads.Learnt,
@@ -794,12 +534,14 @@ write-value-returns : (t : ℕ) → write-value-lts.Need-returns (
   write-fields.Post,
   put-reads.Asked,
   put-reads.Learnt,
-  write-set-below t,
-  write-set.Post,
+  write-members-below t,
+  write-members.Post,
+  close-set-reads.Asked,
+  close-set-reads.Learnt,
 ) (write-value-at t) write-value.Post
 write-value-returns t c = let a = c .before .before .before .before .before .before .before .before .args in value-nested (a .sorts .now) (a .members .now) (a .names .now) (a .nodes .now) (a .text .now) (a .at) (a .allow) _ _ _ (c .if1 .taken)
 
--- src/value.rt:214:9
+-- src/value.rt:177:9
 write-value-open-value-requires : (t : ℕ) → write-value-lts.Need-open-value-requires (
   open-value-reads.Asked,
   open-value-reads.Learnt,
@@ -807,12 +549,14 @@ write-value-open-value-requires : (t : ℕ) → write-value-lts.Need-open-value-
   write-fields.Post,
   put-reads.Asked,
   put-reads.Learnt,
-  write-set-below t,
-  write-set.Post,
+  write-members-below t,
+  write-members.Post,
+  close-set-reads.Asked,
+  close-set-reads.Learnt,
 ) (write-value-at t) write-value.Post
 write-value-open-value-requires t c κs = search needs
 
--- src/value.rt:216:23
+-- src/value.rt:179:23
 write-value-enum-known-opened : (t : ℕ) → write-value-lts.Need-enum-known-opened (
   open-value-reads.Asked,
   open-value-reads.Learnt,
@@ -820,12 +564,14 @@ write-value-enum-known-opened : (t : ℕ) → write-value-lts.Need-enum-known-op
   write-fields.Post,
   put-reads.Asked,
   put-reads.Learnt,
-  write-set-below t,
-  write-set.Post,
+  write-members-below t,
+  write-members.Post,
+  close-set-reads.Asked,
+  close-set-reads.Learnt,
 ) (write-value-at t) write-value.Post
 write-value-enum-known-opened t c = search needs
 
--- src/value.rt:218:13
+-- src/value.rt:181:13
 write-value-enum-known-opened-2 : (t : ℕ) → write-value-lts.Need-enum-known-opened-2 (
   open-value-reads.Asked,
   open-value-reads.Learnt,
@@ -833,12 +579,14 @@ write-value-enum-known-opened-2 : (t : ℕ) → write-value-lts.Need-enum-known-
   write-fields.Post,
   put-reads.Asked,
   put-reads.Learnt,
-  write-set-below t,
-  write-set.Post,
+  write-members-below t,
+  write-members.Post,
+  close-set-reads.Asked,
+  close-set-reads.Learnt,
 ) (write-value-at t) write-value.Post
 write-value-enum-known-opened-2 t c = search needs
 
--- src/value.rt:230:17
+-- src/value.rt:193:17
 write-value-sub-write-fields : (t : ℕ) → write-value-lts.Need-sub-write-fields (
   open-value-reads.Asked,
   open-value-reads.Learnt,
@@ -846,12 +594,14 @@ write-value-sub-write-fields : (t : ℕ) → write-value-lts.Need-sub-write-fiel
   write-fields.Post,
   put-reads.Asked,
   put-reads.Learnt,
-  write-set-below t,
-  write-set.Post,
+  write-members-below t,
+  write-members.Post,
+  close-set-reads.Asked,
+  close-set-reads.Learnt,
 ) (write-value-at t) write-value.Post
 write-value-sub-write-fields t c = search needs
 
--- src/value.rt:222:17
+-- src/value.rt:185:17
 write-value-write-fields-requires : (t : ℕ) → write-value-lts.Need-write-fields-requires (
   open-value-reads.Asked,
   open-value-reads.Learnt,
@@ -859,12 +609,14 @@ write-value-write-fields-requires : (t : ℕ) → write-value-lts.Need-write-fie
   write-fields.Post,
   put-reads.Asked,
   put-reads.Learnt,
-  write-set-below t,
-  write-set.Post,
+  write-members-below t,
+  write-members.Post,
+  close-set-reads.Asked,
+  close-set-reads.Learnt,
 ) (write-value-at t) write-value.Post
 write-value-write-fields-requires t c κs = search needs
 
--- src/value.rt:235:17
+-- src/value.rt:198:17
 write-value-slice-aggregate-put : (t : ℕ) → write-value-lts.Need-slice-aggregate-put (
   open-value-reads.Asked,
   open-value-reads.Learnt,
@@ -872,12 +624,14 @@ write-value-slice-aggregate-put : (t : ℕ) → write-value-lts.Need-slice-aggre
   write-fields.Post,
   put-reads.Asked,
   put-reads.Learnt,
-  write-set-below t,
-  write-set.Post,
+  write-members-below t,
+  write-members.Post,
+  close-set-reads.Asked,
+  close-set-reads.Learnt,
 ) (write-value-at t) write-value.Post
 write-value-slice-aggregate-put t c = search needs
 
--- src/value.rt:235:13
+-- src/value.rt:198:13
 write-value-put-requires : (t : ℕ) → write-value-lts.Need-put-requires (
   open-value-reads.Asked,
   open-value-reads.Learnt,
@@ -885,51 +639,74 @@ write-value-put-requires : (t : ℕ) → write-value-lts.Need-put-requires (
   write-fields.Post,
   put-reads.Asked,
   put-reads.Learnt,
-  write-set-below t,
-  write-set.Post,
+  write-members-below t,
+  write-members.Post,
+  close-set-reads.Asked,
+  close-set-reads.Learnt,
 ) (write-value-at t) write-value.Post
 write-value-put-requires t c κs = search needs
 
--- src/value.rt:244:13
-write-value-enum-told : (t : ℕ) → write-value-lts.Need-enum-told (
+-- src/value.rt:200:21
+write-value-enum-known-opened-3 : (t : ℕ) → write-value-lts.Need-enum-known-opened-3 (
   open-value-reads.Asked,
   open-value-reads.Learnt,
   write-fields-below t,
   write-fields.Post,
   put-reads.Asked,
   put-reads.Learnt,
-  write-set-below t,
-  write-set.Post,
+  write-members-below t,
+  write-members.Post,
+  close-set-reads.Asked,
+  close-set-reads.Learnt,
 ) (write-value-at t) write-value.Post
-write-value-enum-told t c = search needs
+write-value-enum-known-opened-3 t c = search needs
 
--- src/value.rt:244:13
-write-value-sub-write-set : (t : ℕ) → write-value-lts.Need-sub-write-set (
+-- src/value.rt:208:17
+write-value-sub-write-members : (t : ℕ) → write-value-lts.Need-sub-write-members (
   open-value-reads.Asked,
   open-value-reads.Learnt,
   write-fields-below t,
   write-fields.Post,
   put-reads.Asked,
   put-reads.Learnt,
-  write-set-below t,
-  write-set.Post,
+  write-members-below t,
+  write-members.Post,
+  close-set-reads.Asked,
+  close-set-reads.Learnt,
 ) (write-value-at t) write-value.Post
-write-value-sub-write-set t c = search needs
+write-value-sub-write-members t c = search needs
 
--- src/value.rt:237:24
-write-value-write-set-requires : (t : ℕ) → write-value-lts.Need-write-set-requires (
+-- src/value.rt:201:17
+write-value-write-members-requires : (t : ℕ) → write-value-lts.Need-write-members-requires (
   open-value-reads.Asked,
   open-value-reads.Learnt,
   write-fields-below t,
   write-fields.Post,
   put-reads.Asked,
   put-reads.Learnt,
-  write-set-below t,
-  write-set.Post,
+  write-members-below t,
+  write-members.Post,
+  close-set-reads.Asked,
+  close-set-reads.Learnt,
 ) (write-value-at t) write-value.Post
-write-value-write-set-requires t c κs = search needs
+write-value-write-members-requires t c κs = search needs
 
--- src/value.rt:198:1
+-- src/value.rt:213:13
+write-value-close-set-requires : (t : ℕ) → write-value-lts.Need-close-set-requires (
+  open-value-reads.Asked,
+  open-value-reads.Learnt,
+  write-fields-below t,
+  write-fields.Post,
+  put-reads.Asked,
+  put-reads.Learnt,
+  write-members-below t,
+  write-members.Post,
+  close-set-reads.Asked,
+  close-set-reads.Learnt,
+) (write-value-at t) write-value.Post
+write-value-close-set-requires t c κs = search needs
+
+-- src/value.rt:161:1
 write-value-same-length : (t : ℕ) → write-value-lts.Need-same-length (
   open-value-reads.Asked,
   open-value-reads.Learnt,
@@ -937,12 +714,14 @@ write-value-same-length : (t : ℕ) → write-value-lts.Need-same-length (
   write-fields.Post,
   put-reads.Asked,
   put-reads.Learnt,
-  write-set-below t,
-  write-set.Post,
+  write-members-below t,
+  write-members.Post,
+  close-set-reads.Asked,
+  close-set-reads.Learnt,
 ) (write-value-at t) write-value.Post
 write-value-same-length t c = search needs
 
--- src/value.rt:198:1
+-- src/value.rt:161:1
 write-value-returns-2 : (t : ℕ) → write-value-lts.Need-returns-2 (
   open-value-reads.Asked,
   open-value-reads.Learnt,
@@ -950,12 +729,14 @@ write-value-returns-2 : (t : ℕ) → write-value-lts.Need-returns-2 (
   write-fields.Post,
   put-reads.Asked,
   put-reads.Learnt,
-  write-set-below t,
-  write-set.Post,
+  write-members-below t,
+  write-members.Post,
+  close-set-reads.Asked,
+  close-set-reads.Learnt,
 ) (write-value-at t) write-value.Post
 write-value-returns-2 t c = let a = c .before .before .before .before .before .before .before .before .before .before .before .before .before .before .before .args in value-whole (a .sorts .now) (a .members .now) (a .names .now) (a .nodes .now) (a .text .now) (a .at) (a .allow) (c .before .before .before .before .before .before .before .if1 .left) _ _ (c .before .before .before .before .before .open-value .result) (c .before .before .before .before .before .open-value .ensures) _ (c .before .opened .given .1)
 
--- src/value.rt:198:1
+-- src/value.rt:161:1
 write-value-same-length-2 : (t : ℕ) → write-value-lts.Need-same-length-2 (
   open-value-reads.Asked,
   open-value-reads.Learnt,
@@ -963,12 +744,14 @@ write-value-same-length-2 : (t : ℕ) → write-value-lts.Need-same-length-2 (
   write-fields.Post,
   put-reads.Asked,
   put-reads.Learnt,
-  write-set-below t,
-  write-set.Post,
+  write-members-below t,
+  write-members.Post,
+  close-set-reads.Asked,
+  close-set-reads.Learnt,
 ) (write-value-at t) write-value.Post
 write-value-same-length-2 t c = search needs
 
--- src/value.rt:198:1
+-- src/value.rt:161:1
 write-value-same-length-3 : (t : ℕ) → write-value-lts.Need-same-length-3 (
   open-value-reads.Asked,
   open-value-reads.Learnt,
@@ -976,12 +759,14 @@ write-value-same-length-3 : (t : ℕ) → write-value-lts.Need-same-length-3 (
   write-fields.Post,
   put-reads.Asked,
   put-reads.Learnt,
-  write-set-below t,
-  write-set.Post,
+  write-members-below t,
+  write-members.Post,
+  close-set-reads.Asked,
+  close-set-reads.Learnt,
 ) (write-value-at t) write-value.Post
 write-value-same-length-3 t c = search needs
 
--- src/value.rt:198:1
+-- src/value.rt:161:1
 write-value-returns-3 : (t : ℕ) → write-value-lts.Need-returns-3 (
   open-value-reads.Asked,
   open-value-reads.Learnt,
@@ -989,12 +774,14 @@ write-value-returns-3 : (t : ℕ) → write-value-lts.Need-returns-3 (
   write-fields.Post,
   put-reads.Asked,
   put-reads.Learnt,
-  write-set-below t,
-  write-set.Post,
+  write-members-below t,
+  write-members.Post,
+  close-set-reads.Asked,
+  close-set-reads.Learnt,
 ) (write-value-at t) write-value.Post
 write-value-returns-3 t c = let a = c .before .before .before .before .before .before .before .before .before .before .before .before .before .before .before .before .before .before .before .before .before .before .before .before .before .before .before .args in value-fields (a .sorts .now) (a .members .now) (a .names .now) (a .nodes .now) (a .text .now) (a .at) (a .allow) (c .before .before .before .before .before .before .before .before .before .before .before .before .before .before .before .before .before .before .before .if1 .left) _ _ (c .before .before .before .before .before .before .before .before .before .before .before .before .before .before .before .before .before .open-value .result) (c .before .before .before .before .before .before .before .before .before .before .before .before .before .before .before .before .before .open-value .ensures) _ _ _ (c .before .before .before .before .before .before .before .before .before .before .before .before .before .opened2 .given .1) _ _ _ _ (c .before .before .before .before .before .before .before .before .before .write-fields .ensures) (c .before .before .put .ensures)
 
--- src/value.rt:198:1
+-- src/value.rt:161:1
 write-value-same-length-4 : (t : ℕ) → write-value-lts.Need-same-length-4 (
   open-value-reads.Asked,
   open-value-reads.Learnt,
@@ -1002,12 +789,14 @@ write-value-same-length-4 : (t : ℕ) → write-value-lts.Need-same-length-4 (
   write-fields.Post,
   put-reads.Asked,
   put-reads.Learnt,
-  write-set-below t,
-  write-set.Post,
+  write-members-below t,
+  write-members.Post,
+  close-set-reads.Asked,
+  close-set-reads.Learnt,
 ) (write-value-at t) write-value.Post
 write-value-same-length-4 t c = search needs
 
--- src/value.rt:198:1
+-- src/value.rt:161:1
 write-value-same-length-5 : (t : ℕ) → write-value-lts.Need-same-length-5 (
   open-value-reads.Asked,
   open-value-reads.Learnt,
@@ -1015,12 +804,14 @@ write-value-same-length-5 : (t : ℕ) → write-value-lts.Need-same-length-5 (
   write-fields.Post,
   put-reads.Asked,
   put-reads.Learnt,
-  write-set-below t,
-  write-set.Post,
+  write-members-below t,
+  write-members.Post,
+  close-set-reads.Asked,
+  close-set-reads.Learnt,
 ) (write-value-at t) write-value.Post
 write-value-same-length-5 t c = search needs
 
--- src/value.rt:198:1
+-- src/value.rt:161:1
 write-value-returns-4 : (t : ℕ) → write-value-lts.Need-returns-4 (
   open-value-reads.Asked,
   open-value-reads.Learnt,
@@ -1028,21 +819,16 @@ write-value-returns-4 : (t : ℕ) → write-value-lts.Need-returns-4 (
   write-fields.Post,
   put-reads.Asked,
   put-reads.Learnt,
-  write-set-below t,
-  write-set.Post,
+  write-members-below t,
+  write-members.Post,
+  close-set-reads.Asked,
+  close-set-reads.Learnt,
 ) (write-value-at t) write-value.Post
-write-value-returns-4 t c = let a = c .before .before .before .before .before .before .before .before .before .before .before .before .before .before .before .before .before .before .before .before .before .args in value-set (a .sorts .now) (a .members .now) (a .names .now) (a .nodes .now) (a .text .now) (a .at) (a .allow) (c .before .before .before .before .before .before .before .before .before .before .before .before .before .if1 .left) _ _ (c .before .before .before .before .before .before .before .before .before .before .before .open-value .result) (c .before .before .before .before .before .before .before .before .before .before .before .open-value .ensures) (c .before .before .before .before .before .before .before .enum-told .given .1) _ _ (c .before .before .before .before .write-set .ensures)
+write-value-returns-4 t c = let a = c .before .before .before .before .before .before .before .before .before .before .before .before .before .before .before .before .before .before .before .before .before .before .before .before .before .before .before .before .before .args in value-set (a .sorts .now) (a .members .now) (a .names .now) (a .nodes .now) (a .text .now) (a .at) (a .allow) (c .before .before .before .before .before .before .before .before .before .before .before .before .before .before .before .before .before .before .before .before .before .if1 .left) _ _ (c .before .before .before .before .before .before .before .before .before .before .before .before .before .before .before .before .before .before .before .open-value .result) (c .before .before .before .before .before .before .before .before .before .before .before .before .before .before .before .before .before .before .before .open-value .ensures) _ (c .before .before .before .before .before .before .before .before .before .before .before .before .before .before .before .opened3 .given .1) _ _ _ _ (c .before .before .before .before .before .before .before .before .before .before .before .write-members .ensures) (c .before .before .before .before .close-set .ensures)
 
-pub +write-fields+write-inside+write-members+write-set+write-value-spec :
-    {M : Type 1} → statement M
-+write-fields+write-inside+write-members+write-set+write-value-spec =
-    close
-    μ-write-fields
-    μ-write-inside
-    μ-write-members
-    μ-write-set
-    μ-write-value
-    (λ t. write-fields-lts.spec (
+pub +write-fields+write-inside+write-members+write-value-spec : {M : Type 1} → statement M
++write-fields+write-inside+write-members+write-value-spec =
+    close μ-write-fields μ-write-inside μ-write-members μ-write-value (λ t. write-fields-lts.spec (
       write-comma-reads.Asked,
       write-comma-reads.Learnt,
       write-inside-below t,
@@ -1111,37 +897,6 @@ pub +write-fields+write-inside+write-members+write-set+write-value-spec :
     (write-members-same-length-4 t)
     (write-members-returns-3 t)
     (write-members-returns-4 t))
-    (λ t. write-set-lts.spec (
-      put-reads.Asked,
-      put-reads.Learnt,
-      write-members-below t,
-      write-members.Post,
-      close-reads.Asked,
-      close-reads.Learnt,
-      plus-reads.Asked,
-      plus-reads.Learnt,
-    )
-    (write-set-at t)
-    write-set.Post
-    (write-set-slice-aggregate-put t)
-    (write-set-put-requires t)
-    (write-set-write-members-requires t)
-    (write-set-slice-aggregate-put-2 t)
-    (write-set-put-requires-2 t)
-    (write-set-same-length t)
-    (write-set-same-length-2 t)
-    (write-set-returns t)
-    (write-set-same-length-3 t)
-    (write-set-same-length-4 t)
-    (write-set-returns-2 t)
-    (write-set-sub-close t)
-    (write-set-part-close-start t)
-    (write-set-part-close-end t)
-    (write-set-close-requires t)
-    (write-set-plus-requires t)
-    (write-set-same-length-5 t)
-    (write-set-same-length-6 t)
-    (write-set-returns-3 t))
     λ t. write-value-lts.spec (
       open-value-reads.Asked,
       open-value-reads.Learnt,
@@ -1149,8 +904,10 @@ pub +write-fields+write-inside+write-members+write-set+write-value-spec :
       write-fields.Post,
       put-reads.Asked,
       put-reads.Learnt,
-      write-set-below t,
-      write-set.Post,
+      write-members-below t,
+      write-members.Post,
+      close-set-reads.Asked,
+      close-set-reads.Learnt,
     )
     (write-value-at t)
     write-value.Post
@@ -1162,9 +919,10 @@ pub +write-fields+write-inside+write-members+write-set+write-value-spec :
     (write-value-write-fields-requires t)
     (write-value-slice-aggregate-put t)
     (write-value-put-requires t)
-    (write-value-enum-told t)
-    (write-value-sub-write-set t)
-    (write-value-write-set-requires t)
+    (write-value-enum-known-opened-3 t)
+    (write-value-sub-write-members t)
+    (write-value-write-members-requires t)
+    (write-value-close-set-requires t)
     (write-value-same-length t)
     (write-value-returns-2 t)
     (write-value-same-length-2 t)
