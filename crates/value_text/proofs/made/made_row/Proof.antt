@@ -6,15 +6,6 @@ use Rattle.value_text.proofs.made.made_row.Reads as reads
 use Rattle.value_text.proofs.made.made_row.Lts as lts
 use Rattle.tables.proofs.sort_at.Reads as sort-at-reads
 
-sort-at-requires : tie.Need-sort-at-requires
-sort-at-requires c κs = search needs
-
-enum-told : tie.Need-enum-told
-enum-told c = search needs
-
-enum-told-2 : tie.Need-enum-told-2
-enum-told-2 c = search needs
-
 returns : tie.Need-returns
 returns c = made-entity _ _ _ (c .before .before .sort-at .ensures) (c .enum-told .given .1)
 
@@ -26,4 +17,4 @@ returns-3 c = made-nameless _ _ _ (c .before .sort-at .ensures) (c .match .keys3
 
 pub made-row-spec : {M : Type 1} → statement M
 made-row-spec =
-    tie.close (tie.spec sort-at-requires enum-told enum-told-2 returns returns-2 returns-3)
+    tie.close (tie.spec (λ c κs. search needs) (λ c. search needs) (λ c. search needs) returns returns-2 returns-3)

@@ -101,7 +101,6 @@ abbrev write-fields-μ-loop : write-fields-lts.MeasureT-loop
 write-fields-μ-loop sorts members names nodes text first count allow scratch₀ out₀ place at₀ to₀ i₀ scratch out at to i =
     count - i
 
--- src/value.rt:140:5
 write-fields-loop-holds : (t : ℕ) → write-fields-lts.Need-loop-holds (
   write-comma-reads.Asked,
   write-comma-reads.Learnt,
@@ -112,7 +111,6 @@ write-fields-loop-holds : (t : ℕ) → write-fields-lts.Need-loop-holds (
 ) (write-fields-at t) write-fields.Post write-fields-Inv-loop write-fields-μ-loop
 write-fields-loop-holds t c = let a = c .before .before .before .before .before .before .before .args in (omega arith, refl, refl, left-start (a .sorts .now) (a .members .now) (a .names .now) (a .nodes .now) (a .text .now) (a .first) (a .count) (a .allow) (a .out .now) (a .place))
 
--- src/value.rt:141:13
 write-fields-write-comma-requires : (t : ℕ) → write-fields-lts.Need-write-comma-requires (
   write-comma-reads.Asked,
   write-comma-reads.Learnt,
@@ -123,7 +121,6 @@ write-fields-write-comma-requires : (t : ℕ) → write-fields-lts.Need-write-co
 ) (write-fields-at t) write-fields.Post write-fields-Inv-loop write-fields-μ-loop
 write-fields-write-comma-requires t c κs = search needs
 
--- src/value.rt:142:9
 write-fields-write-inside-requires : (t : ℕ) → write-fields-lts.Need-write-inside-requires (
   write-comma-reads.Asked,
   write-comma-reads.Learnt,
@@ -134,7 +131,6 @@ write-fields-write-inside-requires : (t : ℕ) → write-fields-lts.Need-write-i
 ) (write-fields-at t) write-fields.Post write-fields-Inv-loop write-fields-μ-loop
 write-fields-write-inside-requires t c κs = search needs
 
--- src/value.rt:154:9
 write-fields-after-requires : (t : ℕ) → write-fields-lts.Need-after-requires (
   write-comma-reads.Asked,
   write-comma-reads.Learnt,
@@ -145,7 +141,6 @@ write-fields-after-requires : (t : ℕ) → write-fields-lts.Need-after-requires
 ) (write-fields-at t) write-fields.Post write-fields-Inv-loop write-fields-μ-loop
 write-fields-after-requires t c κs = search needs
 
--- src/value.rt:155:9
 write-fields-add-i : (t : ℕ) → write-fields-lts.Need-add-i (
   write-comma-reads.Asked,
   write-comma-reads.Learnt,
@@ -156,7 +151,6 @@ write-fields-add-i : (t : ℕ) → write-fields-lts.Need-add-i (
 ) (write-fields-at t) write-fields.Post write-fields-Inv-loop write-fields-μ-loop
 write-fields-add-i t c = search needs
 
--- src/value.rt:140:5
 write-fields-loop-less : (t : ℕ) → write-fields-lts.Need-loop-less (
   write-comma-reads.Asked,
   write-comma-reads.Learnt,
@@ -167,7 +161,6 @@ write-fields-loop-less : (t : ℕ) → write-fields-lts.Need-loop-less (
 ) (write-fields-at t) write-fields.Post write-fields-Inv-loop write-fields-μ-loop
 write-fields-loop-less t c = search needs
 
--- src/value.rt:140:5
 write-fields-loop-again : (t : ℕ) → write-fields-lts.Need-loop-again (
   write-comma-reads.Asked,
   write-comma-reads.Learnt,
@@ -178,7 +171,6 @@ write-fields-loop-again : (t : ℕ) → write-fields-lts.Need-loop-again (
 ) (write-fields-at t) write-fields.Post write-fields-Inv-loop write-fields-μ-loop
 write-fields-loop-again t c = let a = c .before .before .before .before .before .before .before .before .before .before .before .before .before .before .before .before .before .before .before .before .before .args in (omega arith, c .before .before .before .before .before .write-inside .kept .1 .1 .1 .1 .1 .1 .1 .0 ∙ c .before .before .before .before .before .before .before .before .before .before .before .before .before .loop .inv .1, c .before .before .before .before .before .write-inside .kept .1 .1 .1 .1 .1 .1 .1 .1 .0 ∙ c .before .before .before .before .before .before .before .before .before .before .write-comma .kept .1 .0 ∙ c .before .before .before .before .before .before .before .before .before .before .before .before .before .loop .inv .2, left-next (a .sorts .now) (a .members .now) (a .names .now) (a .nodes .now) (a .text .now) (a .first) (a .count) (a .allow) (a .out .now) (a .place) _ _ _ _ (c .before .before .before .before .before .before .before .before .before .before .before .before .before .loop .inv .3) (c .before .before .before .before .before .before .before .before .before .before .before .before .loop-test .taken) _ _ _ _ (c .before .before .before .before .before .before .before .before .before .before .write-comma .ensures) (c .before .before .before .before .before .write-inside .ensures) _ (c .after .ensures))
 
--- src/value.rt:122:1
 write-fields-same-length : (t : ℕ) → write-fields-lts.Need-same-length (
   write-comma-reads.Asked,
   write-comma-reads.Learnt,
@@ -189,7 +181,6 @@ write-fields-same-length : (t : ℕ) → write-fields-lts.Need-same-length (
 ) (write-fields-at t) write-fields.Post write-fields-Inv-loop write-fields-μ-loop
 write-fields-same-length t c = c .before .loop .inv .1
 
--- src/value.rt:122:1
 write-fields-same-length-2 : (t : ℕ) → write-fields-lts.Need-same-length-2 (
   write-comma-reads.Asked,
   write-comma-reads.Learnt,
@@ -200,7 +191,6 @@ write-fields-same-length-2 : (t : ℕ) → write-fields-lts.Need-same-length-2 (
 ) (write-fields-at t) write-fields.Post write-fields-Inv-loop write-fields-μ-loop
 write-fields-same-length-2 t c = c .before .loop .inv .2
 
--- src/value.rt:122:1
 write-fields-returns : (t : ℕ) → write-fields-lts.Need-returns (
   write-comma-reads.Asked,
   write-comma-reads.Learnt,
@@ -211,7 +201,6 @@ write-fields-returns : (t : ℕ) → write-fields-lts.Need-returns (
 ) (write-fields-at t) write-fields.Post write-fields-Inv-loop write-fields-μ-loop
 write-fields-returns t c = let a = c .before .before .before .before .before .before .before .before .before .args in left-end (a .sorts .now) (a .members .now) (a .names .now) (a .nodes .now) (a .text .now) (a .first) (a .count) (a .allow) (a .out .now) (a .place) _ _ _ _ (c .before .loop .inv .3) (c .loop-test .left)
 
--- src/value.rt:30:9
 write-inside-returns : (t : ℕ) → write-inside-lts.Need-returns (
   write-value-below t,
   write-value.Post,
@@ -220,7 +209,6 @@ write-inside-returns : (t : ℕ) → write-inside-lts.Need-returns (
 ) (write-inside-at t) write-inside.Post
 write-inside-returns t c = let a = c .before .before .before .before .before .before .before .before .args in inside-past (a .sorts .now) (a .members .now) (a .names .now) (a .nodes .now) (a .text .now) (a .at) (a .allow) _ (a .place) _ (c .if1 .taken)
 
--- src/value.rt:41:9
 write-inside-sub-write-value : (t : ℕ) → write-inside-lts.Need-sub-write-value (
   write-value-below t,
   write-value.Post,
@@ -229,7 +217,6 @@ write-inside-sub-write-value : (t : ℕ) → write-inside-lts.Need-sub-write-val
 ) (write-inside-at t) write-inside.Post
 write-inside-sub-write-value t c = search needs
 
--- src/value.rt:41:9
 write-inside-part-write-value-start : (t : ℕ) → write-inside-lts.Need-part-write-value-start (
   write-value-below t,
   write-value.Post,
@@ -238,7 +225,6 @@ write-inside-part-write-value-start : (t : ℕ) → write-inside-lts.Need-part-w
 ) (write-inside-at t) write-inside.Post
 write-inside-part-write-value-start t c = search needs
 
--- src/value.rt:41:9
 write-inside-part-write-value-end : (t : ℕ) → write-inside-lts.Need-part-write-value-end (
   write-value-below t,
   write-value.Post,
@@ -247,7 +233,6 @@ write-inside-part-write-value-end : (t : ℕ) → write-inside-lts.Need-part-wri
 ) (write-inside-at t) write-inside.Post
 write-inside-part-write-value-end t c = search needs
 
--- src/value.rt:32:9
 write-inside-write-value-requires : (t : ℕ) → write-inside-lts.Need-write-value-requires (
   write-value-below t,
   write-value.Post,
@@ -256,7 +241,6 @@ write-inside-write-value-requires : (t : ℕ) → write-inside-lts.Need-write-va
 ) (write-inside-at t) write-inside.Post
 write-inside-write-value-requires t c κs = search needs
 
--- src/value.rt:43:5
 write-inside-plus-requires : (t : ℕ) → write-inside-lts.Need-plus-requires (
   write-value-below t,
   write-value.Post,
@@ -265,7 +249,6 @@ write-inside-plus-requires : (t : ℕ) → write-inside-lts.Need-plus-requires (
 ) (write-inside-at t) write-inside.Post
 write-inside-plus-requires t c κs = search needs
 
--- src/value.rt:15:1
 write-inside-same-length : (t : ℕ) → write-inside-lts.Need-same-length (
   write-value-below t,
   write-value.Post,
@@ -274,7 +257,6 @@ write-inside-same-length : (t : ℕ) → write-inside-lts.Need-same-length (
 ) (write-inside-at t) write-inside.Post
 write-inside-same-length t c = search needs
 
--- src/value.rt:15:1
 write-inside-same-length-2 : (t : ℕ) → write-inside-lts.Need-same-length-2 (
   write-value-below t,
   write-value.Post,
@@ -283,7 +265,6 @@ write-inside-same-length-2 : (t : ℕ) → write-inside-lts.Need-same-length-2 (
 ) (write-inside-at t) write-inside.Post
 write-inside-same-length-2 t c = search needs
 
--- src/value.rt:15:1
 write-inside-returns-2 : (t : ℕ) → write-inside-lts.Need-returns-2 (
   write-value-below t,
   write-value.Post,
@@ -292,7 +273,6 @@ write-inside-returns-2 : (t : ℕ) → write-inside-lts.Need-returns-2 (
 ) (write-inside-at t) write-inside.Post
 write-inside-returns-2 t c = let a = c .before .before .before .before .before .before .before .before .before .before .before .before .before .before .before .before .args in inside-tail (a .sorts .now) (a .members .now) (a .names .now) (a .nodes .now) (a .text .now) (a .at) (a .allow) _ _ _ _ _ (c .before .before .before .before .before .before .before .before .if1 .left) (c .before .before .before .before .before .write-value .kept .1 .1 .1 .1 .1 .1 .1 .1 .0) (c .before .before .before .before .before .before .before .before .before .before .before .before .before .before .before .before .good .1 .1 .1 .1 .1 .1 .1 .1 .0 .0) (c .before .before .before .before .before .write-value .ensures) (c .plus .ensures)
 
--- src/value.rt:61:9
 write-members-shape-at-requires : (t : ℕ) → write-members-lts.Need-shape-at-requires (
   shape-at-reads.Asked,
   shape-at-reads.Learnt,
@@ -305,7 +285,6 @@ write-members-shape-at-requires : (t : ℕ) → write-members-lts.Need-shape-at-
 ) (write-members-at t) write-members.Post
 write-members-shape-at-requires t c κs = search needs
 
--- src/value.rt:63:28
 write-members-enum-known-shape : (t : ℕ) → write-members-lts.Need-enum-known-shape (
   shape-at-reads.Asked,
   shape-at-reads.Learnt,
@@ -318,7 +297,6 @@ write-members-enum-known-shape : (t : ℕ) → write-members-lts.Need-enum-known
 ) (write-members-at t) write-members.Post
 write-members-enum-known-shape t c = search needs
 
--- src/value.rt:64:17
 write-members-write-inside-requires : (t : ℕ) → write-members-lts.Need-write-inside-requires (
   shape-at-reads.Asked,
   shape-at-reads.Learnt,
@@ -331,7 +309,6 @@ write-members-write-inside-requires : (t : ℕ) → write-members-lts.Need-write
 ) (write-members-at t) write-members.Post
 write-members-write-inside-requires t c κs = search needs
 
--- src/value.rt:76:17
 write-members-slice-aggregate-put : (t : ℕ) → write-members-lts.Need-slice-aggregate-put (
   shape-at-reads.Asked,
   shape-at-reads.Learnt,
@@ -344,7 +321,6 @@ write-members-slice-aggregate-put : (t : ℕ) → write-members-lts.Need-slice-a
 ) (write-members-at t) write-members.Post
 write-members-slice-aggregate-put t c = search needs
 
--- src/value.rt:76:13
 write-members-put-requires : (t : ℕ) → write-members-lts.Need-put-requires (
   shape-at-reads.Asked,
   shape-at-reads.Learnt,
@@ -357,7 +333,6 @@ write-members-put-requires : (t : ℕ) → write-members-lts.Need-put-requires (
 ) (write-members-at t) write-members.Post
 write-members-put-requires t c κs = search needs
 
--- src/value.rt:78:24
 write-members-enum-known-shape-2 : (t : ℕ) → write-members-lts.Need-enum-known-shape-2 (
   shape-at-reads.Asked,
   shape-at-reads.Learnt,
@@ -370,7 +345,6 @@ write-members-enum-known-shape-2 : (t : ℕ) → write-members-lts.Need-enum-kno
 ) (write-members-at t) write-members.Post
 write-members-enum-known-shape-2 t c = search needs
 
--- src/value.rt:80:17
 write-members-returns : (t : ℕ) → write-members-lts.Need-returns (
   shape-at-reads.Asked,
   shape-at-reads.Learnt,
@@ -383,7 +357,6 @@ write-members-returns : (t : ℕ) → write-members-lts.Need-returns (
 ) (write-members-at t) write-members.Post
 write-members-returns t c = let a = c .before .before .before .before .before .before .before .before .before .before .before .before .args in members-nested (a .sorts .now) (a .members .now) (a .names .now) (a .nodes .now) (a .text .now) (a .at) (c .before .before .before .before .shape-at .result) (c .before .before .before .before .shape-at .ensures) (a .below) _ _ (c .before .before .shape2 .given .1) _ _ (c .if1 .taken)
 
--- src/value.rt:89:17
 write-members-sub-write-members : (t : ℕ) → write-members-lts.Need-sub-write-members (
   shape-at-reads.Asked,
   shape-at-reads.Learnt,
@@ -396,7 +369,6 @@ write-members-sub-write-members : (t : ℕ) → write-members-lts.Need-sub-write
 ) (write-members-at t) write-members.Post
 write-members-sub-write-members t c = search needs
 
--- src/value.rt:82:17
 write-members-write-members-requires : (t : ℕ) → write-members-lts.Need-write-members-requires (
   shape-at-reads.Asked,
   shape-at-reads.Learnt,
@@ -409,7 +381,6 @@ write-members-write-members-requires : (t : ℕ) → write-members-lts.Need-writ
 ) (write-members-at t) write-members.Post
 write-members-write-members-requires t c κs = search needs
 
--- src/value.rt:101:17
 write-members-sub-write-members-2 : (t : ℕ) → write-members-lts.Need-sub-write-members-2 (
   shape-at-reads.Asked,
   shape-at-reads.Learnt,
@@ -422,7 +393,6 @@ write-members-sub-write-members-2 : (t : ℕ) → write-members-lts.Need-sub-wri
 ) (write-members-at t) write-members.Post
 write-members-sub-write-members-2 t c = search needs
 
--- src/value.rt:94:13
 write-members-write-members-requires-2 : (t : ℕ) → write-members-lts.Need-write-members-requires-2 (
   shape-at-reads.Asked,
   shape-at-reads.Learnt,
@@ -435,7 +405,6 @@ write-members-write-members-requires-2 : (t : ℕ) → write-members-lts.Need-wr
 ) (write-members-at t) write-members.Post
 write-members-write-members-requires-2 t c κs = search needs
 
--- src/value.rt:47:1
 write-members-same-length : (t : ℕ) → write-members-lts.Need-same-length (
   shape-at-reads.Asked,
   shape-at-reads.Learnt,
@@ -448,7 +417,6 @@ write-members-same-length : (t : ℕ) → write-members-lts.Need-same-length (
 ) (write-members-at t) write-members.Post
 write-members-same-length t c = search needs
 
--- src/value.rt:47:1
 write-members-same-length-2 : (t : ℕ) → write-members-lts.Need-same-length-2 (
   shape-at-reads.Asked,
   shape-at-reads.Learnt,
@@ -461,7 +429,6 @@ write-members-same-length-2 : (t : ℕ) → write-members-lts.Need-same-length-2
 ) (write-members-at t) write-members.Post
 write-members-same-length-2 t c = search needs
 
--- src/value.rt:47:1
 write-members-returns-2 : (t : ℕ) → write-members-lts.Need-returns-2 (
   shape-at-reads.Asked,
   shape-at-reads.Learnt,
@@ -474,7 +441,6 @@ write-members-returns-2 : (t : ℕ) → write-members-lts.Need-returns-2 (
 ) (write-members-at t) write-members.Post
 write-members-returns-2 t c = let a = c .before .before .before .before .before .before .before .before .before .before .before .before .before .before .before .before .before .before .before .before .before .before .before .args in members-one (a .sorts .now) (a .members .now) (a .names .now) (a .nodes .now) (a .text .now) (a .at) (c .before .before .before .before .before .before .before .before .before .before .before .before .before .before .before .shape-at .result) (c .before .before .before .before .before .before .before .before .before .before .before .before .before .before .before .shape-at .ensures) (a .below) _ _ _ (a .place) _ _ _ (c .before .before .before .before .before .before .before .before .before .before .before .before .before .shape .given .1) (c .before .before .before .before .before .before .before .before .before .write-inside .ensures) (c .before .before .put .ensures)
 
--- src/value.rt:47:1
 write-members-same-length-3 : (t : ℕ) → write-members-lts.Need-same-length-3 (
   shape-at-reads.Asked,
   shape-at-reads.Learnt,
@@ -487,7 +453,6 @@ write-members-same-length-3 : (t : ℕ) → write-members-lts.Need-same-length-3
 ) (write-members-at t) write-members.Post
 write-members-same-length-3 t c = search needs
 
--- src/value.rt:47:1
 write-members-same-length-4 : (t : ℕ) → write-members-lts.Need-same-length-4 (
   shape-at-reads.Asked,
   shape-at-reads.Learnt,
@@ -500,7 +465,6 @@ write-members-same-length-4 : (t : ℕ) → write-members-lts.Need-same-length-4
 ) (write-members-at t) write-members.Post
 write-members-same-length-4 t c = search needs
 
--- src/value.rt:47:1
 write-members-returns-3 : (t : ℕ) → write-members-lts.Need-returns-3 (
   shape-at-reads.Asked,
   shape-at-reads.Learnt,
@@ -513,7 +477,6 @@ write-members-returns-3 : (t : ℕ) → write-members-lts.Need-returns-3 (
 ) (write-members-at t) write-members.Post
 write-members-returns-3 t c = let a = c .before .before .before .before .before .before .before .before .before .before .before .before .before .before .before .before .before .before .before .before .before .before .before .before .before .before .args in members-two (a .sorts .now) (a .members .now) (a .names .now) (a .nodes .now) (a .text .now) (a .at) (c .before .before .before .before .before .before .before .before .before .before .before .before .before .before .before .before .before .before .shape-at .result) (c .before .before .before .before .before .before .before .before .before .before .before .before .before .before .before .before .before .before .shape-at .ensures) (a .below) _ _ (c .before .before .before .before .before .before .before .before .before .before .before .before .before .before .before .before .shape2 .given .1) _ _ _ (a .place) _ _ (c .before .before .before .before .before .before .before .before .before .before .before .before .before .before .if1 .left) (c .before .before .before .before .before .before .before .before .before .before .before .write-members .ensures) (c .before .before .before .before .write-members2 .ensures)
 
--- src/value.rt:47:1
 write-members-returns-4 : (t : ℕ) → write-members-lts.Need-returns-4 (
   shape-at-reads.Asked,
   shape-at-reads.Learnt,
@@ -526,7 +489,6 @@ write-members-returns-4 : (t : ℕ) → write-members-lts.Need-returns-4 (
 ) (write-members-at t) write-members.Post
 write-members-returns-4 t c = let a = c .before .before .before .before .before .before .before .before .before .args in members-else (a .sorts .now) (a .members .now) (a .names .now) (a .nodes .now) (a .text .now) (a .at) (c .before .shape-at .result) (c .before .shape-at .ensures) (a .below) _ _ (c .match .keys3)
 
--- src/value.rt:175:9
 write-value-returns : (t : ℕ) → write-value-lts.Need-returns (
   open-value-reads.Asked,
   open-value-reads.Learnt,
@@ -541,7 +503,6 @@ write-value-returns : (t : ℕ) → write-value-lts.Need-returns (
 ) (write-value-at t) write-value.Post
 write-value-returns t c = let a = c .before .before .before .before .before .before .before .before .args in value-nested (a .sorts .now) (a .members .now) (a .names .now) (a .nodes .now) (a .text .now) (a .at) (a .allow) _ _ _ (c .if1 .taken)
 
--- src/value.rt:177:9
 write-value-open-value-requires : (t : ℕ) → write-value-lts.Need-open-value-requires (
   open-value-reads.Asked,
   open-value-reads.Learnt,
@@ -556,7 +517,6 @@ write-value-open-value-requires : (t : ℕ) → write-value-lts.Need-open-value-
 ) (write-value-at t) write-value.Post
 write-value-open-value-requires t c κs = search needs
 
--- src/value.rt:179:23
 write-value-enum-known-opened : (t : ℕ) → write-value-lts.Need-enum-known-opened (
   open-value-reads.Asked,
   open-value-reads.Learnt,
@@ -571,7 +531,6 @@ write-value-enum-known-opened : (t : ℕ) → write-value-lts.Need-enum-known-op
 ) (write-value-at t) write-value.Post
 write-value-enum-known-opened t c = search needs
 
--- src/value.rt:181:13
 write-value-enum-known-opened-2 : (t : ℕ) → write-value-lts.Need-enum-known-opened-2 (
   open-value-reads.Asked,
   open-value-reads.Learnt,
@@ -586,7 +545,6 @@ write-value-enum-known-opened-2 : (t : ℕ) → write-value-lts.Need-enum-known-
 ) (write-value-at t) write-value.Post
 write-value-enum-known-opened-2 t c = search needs
 
--- src/value.rt:193:17
 write-value-sub-write-fields : (t : ℕ) → write-value-lts.Need-sub-write-fields (
   open-value-reads.Asked,
   open-value-reads.Learnt,
@@ -601,7 +559,6 @@ write-value-sub-write-fields : (t : ℕ) → write-value-lts.Need-sub-write-fiel
 ) (write-value-at t) write-value.Post
 write-value-sub-write-fields t c = search needs
 
--- src/value.rt:185:17
 write-value-write-fields-requires : (t : ℕ) → write-value-lts.Need-write-fields-requires (
   open-value-reads.Asked,
   open-value-reads.Learnt,
@@ -616,7 +573,6 @@ write-value-write-fields-requires : (t : ℕ) → write-value-lts.Need-write-fie
 ) (write-value-at t) write-value.Post
 write-value-write-fields-requires t c κs = search needs
 
--- src/value.rt:198:17
 write-value-slice-aggregate-put : (t : ℕ) → write-value-lts.Need-slice-aggregate-put (
   open-value-reads.Asked,
   open-value-reads.Learnt,
@@ -631,7 +587,6 @@ write-value-slice-aggregate-put : (t : ℕ) → write-value-lts.Need-slice-aggre
 ) (write-value-at t) write-value.Post
 write-value-slice-aggregate-put t c = search needs
 
--- src/value.rt:198:13
 write-value-put-requires : (t : ℕ) → write-value-lts.Need-put-requires (
   open-value-reads.Asked,
   open-value-reads.Learnt,
@@ -646,7 +601,6 @@ write-value-put-requires : (t : ℕ) → write-value-lts.Need-put-requires (
 ) (write-value-at t) write-value.Post
 write-value-put-requires t c κs = search needs
 
--- src/value.rt:200:21
 write-value-enum-known-opened-3 : (t : ℕ) → write-value-lts.Need-enum-known-opened-3 (
   open-value-reads.Asked,
   open-value-reads.Learnt,
@@ -661,7 +615,6 @@ write-value-enum-known-opened-3 : (t : ℕ) → write-value-lts.Need-enum-known-
 ) (write-value-at t) write-value.Post
 write-value-enum-known-opened-3 t c = search needs
 
--- src/value.rt:208:17
 write-value-sub-write-members : (t : ℕ) → write-value-lts.Need-sub-write-members (
   open-value-reads.Asked,
   open-value-reads.Learnt,
@@ -676,7 +629,6 @@ write-value-sub-write-members : (t : ℕ) → write-value-lts.Need-sub-write-mem
 ) (write-value-at t) write-value.Post
 write-value-sub-write-members t c = search needs
 
--- src/value.rt:201:17
 write-value-write-members-requires : (t : ℕ) → write-value-lts.Need-write-members-requires (
   open-value-reads.Asked,
   open-value-reads.Learnt,
@@ -691,7 +643,6 @@ write-value-write-members-requires : (t : ℕ) → write-value-lts.Need-write-me
 ) (write-value-at t) write-value.Post
 write-value-write-members-requires t c κs = search needs
 
--- src/value.rt:213:13
 write-value-close-set-requires : (t : ℕ) → write-value-lts.Need-close-set-requires (
   open-value-reads.Asked,
   open-value-reads.Learnt,
@@ -706,7 +657,6 @@ write-value-close-set-requires : (t : ℕ) → write-value-lts.Need-close-set-re
 ) (write-value-at t) write-value.Post
 write-value-close-set-requires t c κs = search needs
 
--- src/value.rt:161:1
 write-value-same-length : (t : ℕ) → write-value-lts.Need-same-length (
   open-value-reads.Asked,
   open-value-reads.Learnt,
@@ -721,7 +671,6 @@ write-value-same-length : (t : ℕ) → write-value-lts.Need-same-length (
 ) (write-value-at t) write-value.Post
 write-value-same-length t c = search needs
 
--- src/value.rt:161:1
 write-value-returns-2 : (t : ℕ) → write-value-lts.Need-returns-2 (
   open-value-reads.Asked,
   open-value-reads.Learnt,
@@ -736,7 +685,6 @@ write-value-returns-2 : (t : ℕ) → write-value-lts.Need-returns-2 (
 ) (write-value-at t) write-value.Post
 write-value-returns-2 t c = let a = c .before .before .before .before .before .before .before .before .before .before .before .before .before .before .before .args in value-whole (a .sorts .now) (a .members .now) (a .names .now) (a .nodes .now) (a .text .now) (a .at) (a .allow) (c .before .before .before .before .before .before .before .if1 .left) _ _ (c .before .before .before .before .before .open-value .result) (c .before .before .before .before .before .open-value .ensures) _ (c .before .opened .given .1)
 
--- src/value.rt:161:1
 write-value-same-length-2 : (t : ℕ) → write-value-lts.Need-same-length-2 (
   open-value-reads.Asked,
   open-value-reads.Learnt,
@@ -751,7 +699,6 @@ write-value-same-length-2 : (t : ℕ) → write-value-lts.Need-same-length-2 (
 ) (write-value-at t) write-value.Post
 write-value-same-length-2 t c = search needs
 
--- src/value.rt:161:1
 write-value-same-length-3 : (t : ℕ) → write-value-lts.Need-same-length-3 (
   open-value-reads.Asked,
   open-value-reads.Learnt,
@@ -766,7 +713,6 @@ write-value-same-length-3 : (t : ℕ) → write-value-lts.Need-same-length-3 (
 ) (write-value-at t) write-value.Post
 write-value-same-length-3 t c = search needs
 
--- src/value.rt:161:1
 write-value-returns-3 : (t : ℕ) → write-value-lts.Need-returns-3 (
   open-value-reads.Asked,
   open-value-reads.Learnt,
@@ -781,7 +727,6 @@ write-value-returns-3 : (t : ℕ) → write-value-lts.Need-returns-3 (
 ) (write-value-at t) write-value.Post
 write-value-returns-3 t c = let a = c .before .before .before .before .before .before .before .before .before .before .before .before .before .before .before .before .before .before .before .before .before .before .before .before .before .before .before .args in value-fields (a .sorts .now) (a .members .now) (a .names .now) (a .nodes .now) (a .text .now) (a .at) (a .allow) (c .before .before .before .before .before .before .before .before .before .before .before .before .before .before .before .before .before .before .before .if1 .left) _ _ (c .before .before .before .before .before .before .before .before .before .before .before .before .before .before .before .before .before .open-value .result) (c .before .before .before .before .before .before .before .before .before .before .before .before .before .before .before .before .before .open-value .ensures) _ _ _ (c .before .before .before .before .before .before .before .before .before .before .before .before .before .opened2 .given .1) _ _ _ _ (c .before .before .before .before .before .before .before .before .before .write-fields .ensures) (c .before .before .put .ensures)
 
--- src/value.rt:161:1
 write-value-same-length-4 : (t : ℕ) → write-value-lts.Need-same-length-4 (
   open-value-reads.Asked,
   open-value-reads.Learnt,
@@ -796,7 +741,6 @@ write-value-same-length-4 : (t : ℕ) → write-value-lts.Need-same-length-4 (
 ) (write-value-at t) write-value.Post
 write-value-same-length-4 t c = search needs
 
--- src/value.rt:161:1
 write-value-same-length-5 : (t : ℕ) → write-value-lts.Need-same-length-5 (
   open-value-reads.Asked,
   open-value-reads.Learnt,
@@ -811,7 +755,6 @@ write-value-same-length-5 : (t : ℕ) → write-value-lts.Need-same-length-5 (
 ) (write-value-at t) write-value.Post
 write-value-same-length-5 t c = search needs
 
--- src/value.rt:161:1
 write-value-returns-4 : (t : ℕ) → write-value-lts.Need-returns-4 (
   open-value-reads.Asked,
   open-value-reads.Learnt,
