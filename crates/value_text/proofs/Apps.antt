@@ -1,32 +1,36 @@
--- The value writer by the shape of an application, and what is written around the values inside.
+-- An application opened, by its shape; and a value in the rest of the buffer.
 -- Assumes nothing.
 use mathlib.Core.Path.{_≡_, refl, sym, ap, _∙_, subst}
-use mathlib.Core.Bool.{true, true≢false}
-use mathlib.Core.List.{List}
+use mathlib.Core.Bool.{true}
+use mathlib.Core.List.{List, [], _∷_, _++_, append-nil, append-assoc}
 use mathlib.Core.Option.{Option, some}
 use Prim.Native.Nat.{ℕ, suc, _+_, _-_, _*_, _^_, _≤_, _<_}
 use native.Mathlib.Nat.{mod-eq-of-lt}
 use native.Mathlib.Omega.{arith}
 use lib.ListN.{length, take, drop}
 use borrow.Rule.Slice.PartMut.{putMid}
+use types.Run.{OneOf, miss}
+use denote.Enum.Declared.{tagOf}
 use Rattle.ground.specs.Bytes.{bytes}
+use Rattle.ground.specs.Lists.{joined}
 use Rattle.lent.specs.Put.{Offers}
 use Rattle.words.specs.declared.digits.Radix.{Radix}
 use Rattle.words.specs.Extension.{signed}
 use Rattle.words.specs.Run.{parsed}
 use Rattle.decimals.specs.Decimal.{decimal}
 use Rattle.arena.specs.Text.{textAt}
-use Rattle.arena.specs.Tree.{Tree, Trees, string as quoted, app, nil}
+use Rattle.arena.specs.Tree.{Tree, Trees, string as quoted, app, nil, cons}
 use Rattle.tables.specs.Find.{namedSort}
 use Rattle.tables.specs.Layout.{Lent, tablesOf}
 use Rattle.tables.specs.Sort.{Tables}
 use Rattle.shapes.specs.declared.shape.Found.{Found}
 use Rattle.shapes.specs.declared.shape.Kind.{Kind}
-use Rattle.shapes.specs.Shape.{Shape, shape}
+use Rattle.shapes.specs.Shape.{Shape, operator, other, shape}
 use Rattle.shapes.specs.Shows.{Standing, StandingAll, Shows, ShapeAt, extOf, Reads as TextReads}
 use Rattle.shapes.proofs.Stood.{first-of}
+use Rattle.shapes.proofs.shape.Found as FoundType
 use Rattle.sorts.specs.Result.{ok}
-use Rattle.values.specs.Value.{Value, vBits, vExt, vNone, vSome, vSet, vEntity, vRecord}
+use Rattle.values.specs.Value.{Value, Values, vBits, vExt, vNone, vSome, vEntity, vRecord, vNil, vCons}
 use Rattle.values.specs.Text.{text, texts}
 use Rattle.values.specs.Normal.{normal, normals}
 use Rattle.values.specs.HasSort.{HasSort, Loose}
@@ -36,11 +40,12 @@ use Rattle.well_sorted.proofs.Results.{refuses}
 use Rattle.value_text.specs.declared.made.Made.{Made}
 use Rattle.value_text.specs.Leaf.{IndexedText, EntityText}
 use Rattle.value_text.specs.Made.{RowIs, MadeOf}
-use Rattle.value_text.specs.Value.{Given, Writes, WritesValue, WritesInside, WritesSome, WritesSet, WritesFields, WritesRecord, WritesMade, WritesApp}
+use Rattle.value_text.specs.declared.open.Opened.{Opened}
+use Rattle.value_text.specs.Opened.{Fielded, Opens, OpensApp, OpensMade}
+use Rattle.value_text.specs.Value.{Listed, l-nil, l-cons, onward, Writes, WritesValue, WritesInside}
 use Rattle.value_text.proofs.Arms.{Inner, Reads, app-reads, as-none, as-some, some-of, as-extension, as-indexed, made-name, as-entity, as-record, set-shape, setShape, listed}
 use Rattle.value_text.proofs.Fields.{onward-joined}
-use Rattle.value_text.proofs.Lays.{lays-then, lays-put, lays-as, lays-tail, wrote-front}
-use Rattle.value_text.proofs.Sets.{setFound}
+use Rattle.value_text.proofs.Lays.{lays-put, lays-as, lays-tail, wrote-front}
 
 pub writes-as : (v w : Value) → v ≡ w → (a b : List ℕ) (r : ℕ) → Writes v a b r → Writes w a b r
 writes-as v w e a b r f = subst (λ (x : Value). Writes x a b r) e f
@@ -58,112 +63,143 @@ module _ (sorts members names ws ts : List ℕ) where
       WritesInside sorts members names ws ts i allow a (putMid place (length a - place) a part) place next
   inside-tail i allow a part place count next u n small d c l g t s e k m row hs = lays-tail a part place u n small (d l g t s e k m row hs) c
 
-  pub some-text : (i allow : ℕ) (a b c d : List ℕ) (one two r : ℕ) → Offers a b 0 (bytes "some(") one → WritesInside sorts members names ws ts i allow b c one two → Offers c d two (bytes ")") r →
-      WritesSome sorts members names ws ts i allow a d r
-  unfolding text normal
-  some-text i allow a b c d one two r f v h l g t s e k m row hs room = wrote-front (lays-then (lays-put f) (lays-then (v l g t s e k m row hs) (lays-put h))) room
+-- a tree alone
+alone : (t : Tree) (ws ts : List ℕ) (i : ℕ) → Standing t ws ts i → StandingAll (cons t nil) ws ts i 1
+alone t ws ts i s = record {
+  next = s .next;
+  from = s .from;
+  rest = s .rest;
+  there = record { mid = s .next; off = s .rest; first = s .there; others = record { next = refl; rest = refl } };
+  many-are = refl;
+}
 
-  pub record-text : (row first many allow : ℕ) (a b c d e f : List ℕ) (one two three four r : ℕ) → Offers a b 0 (bytes "r") one → Offers b c one (decimal row) two → Offers c d two (bytes "(") three →
-      WritesFields sorts members names ws ts first many allow d e three four → Offers e f four (bytes ")") r → WritesRecord sorts members names ws ts row first many allow a f r
-  unfolding text normal
-  record-text row first many allow a b c d e f one two three four r p q o v h l g us s vs k room =
-      wrote-front
-      (lays-then (lays-put p) (lays-then (lays-put q) (lays-then (lays-put o)
-      (lays-then (lays-as (onward-joined (texts vs)) (onward-joined (texts (normals vs))) (v l g us s vs k)) (lays-put h))))) room
+-- `some(` and the one value in it
+some-fielded : (T : Tables) (ws ts : List ℕ) (below value : ℕ) (t : Tree) → Standing t ws ts value → (whole : Value) → Inner T below t vSome whole → (row : ℕ) → HasSort whole Loose T row →
+    Fielded T ws ts below value 1 whole (bytes "some(")
+unfolding text normal onward
+some-fielded T ws ts below value t st whole n row hs =
+    let hs′ = subst (λ (x : Value). HasSort x Loose T row) (sym (n .is)) hs in
+    record {
+      trees = cons t nil;
+      fields = vCons (n .inner .value) vNil;
+      there = alone t ws ts value st;
+      reads = l-cons (n .expected) (n .inner) (n .was) (hs′ .inner) (hs′ .has) l-nil;
+      as-read = ap text (sym (n .is)) ∙ ap (λ (s : List ℕ). bytes "some(" ++ (s ++ bytes ")")) (sym (append-nil (text (n .inner .value))));
+      as-written = ap (λ (x : Value). text (normal x)) (sym (n .is)) ∙ ap (λ (s : List ℕ). bytes "some(" ++ (s ++ bytes ")")) (sym (append-nil (text (normal (n .inner .value)))));
+    }
 
+-- what stands before the fields of a record, and the rest behind it
+record-head : (row : ℕ) (parts : List (List ℕ)) →
+    bytes "r" ++ (decimal row ++ (bytes "(" ++ (joined (bytes ",") parts ++ bytes ")"))) ≡ bytes "r" ++ (decimal row ++ bytes "(") ++ (onward 0 parts ++ bytes ")")
+record-head row parts =
+    ap (λ (s : List ℕ). bytes "r" ++ s)
+    (ap (λ (s : List ℕ). decimal row ++ (bytes "(" ++ (s ++ bytes ")"))) (sym (onward-joined parts)) ∙ sym (append-assoc (decimal row) (bytes "(") (onward 0 parts ++ bytes ")")))
+
+record-fielded : (T : Tables) (ws ts : List ℕ) (below first many row : ℕ) (us : Trees) (vs : Values) → StandingAll us ws ts first many → Listed T below us vs →
+    Fielded T ws ts below first many (vRecord row vs) (bytes "r" ++ (decimal row ++ bytes "("))
+unfolding text normal
+record-fielded T ws ts below first many row us vs s h =
+    record { trees = us; fields = vs; there = s; reads = h; as-read = record-head row (texts vs); as-written = record-head row (texts (normals vs)) }
+
+module _ (sorts names ws ts : List ℕ) where
   -- (NAME ..), where NAME is the text there
-  module _ (offset size first many below : ℕ) (a b : List ℕ) (r : ℕ) (slice : List ℕ) (is : slice ≡ textAt ts offset size) (made-as : Made) (of : MadeOf sorts names slice made-as) where
-    row-is : (l : Lent) → Given sorts members names l → (f : List ℕ) → TextReads f ts offset size → (row : ℕ) → namedSort (tablesOf l) f ≡ some row → RowIs (tablesOf l) row made-as
-    row-is l g f q row h = of l (g .sorts-are) (g .names-are) row (ap (namedSort (tablesOf l)) (is ∙ q .bytes) ∙ h)
+  module _ (offset size first many : ℕ) (a b : List ℕ) (slice : List ℕ) (is : slice ≡ textAt ts offset size) (made-as : Made) (of : MadeOf sorts names slice made-as) where
+    row-is : (l : Lent) → l .sorts ≡ sorts → l .names ≡ names → (f : List ℕ) → TextReads f ts offset size → (row : ℕ) → namedSort (tablesOf l) f ≡ some row → RowIs (tablesOf l) row made-as
+    row-is l p n f q row h = of l p n row (ap (namedSort (tablesOf l)) (is ∙ q .bytes) ∙ h)
 
-    pub made-entity : (row : ℕ) → made-as ≡ Made.Entity row → EntityText ws ts row first a b r → WritesMade sorts members names ws ts offset size first many below a b r
+    pub made-entity : (row r : ℕ) → made-as ≡ Made.Entity row → EntityText ws ts row first a b r → OpensMade sorts names ws ts offset size first many a b (Opened.Whole r)
     unfolding text normal
-    made-entity row e d l g f us q s x k m own hs =
+    made-entity row r e d l p o f us q s below x k m own hs =
         let n = made-name (tablesOf l) below x k f us m in
-        let w = subst (λ (y : Made). RowIs (tablesOf l) (n .0) y) e (row-is l g f q (n .0) (n .1)) in
+        let w = subst (λ (y : Made). RowIs (tablesOf l) (n .0) y) e (row-is l p o f q (n .0) (n .1)) in
         let z = as-entity (tablesOf l) below x k f us (n .0) (w .1 .0) m (n .1) (w .1 .1) in
         let st = first-of ws ts (quoted (z .0)) nil first many (subst (λ (y : Trees). StandingAll y ws ts first many) (z .1) s) in
         writes-as (vEntity row (z .0)) (k .value) (ap (λ (y : ℕ). vEntity y (z .0)) (w .0) ∙ z .2) a b r (writes-plain (vEntity row (z .0)) refl (d (z .0) st))
 
-    pub made-record : (row : ℕ) → made-as ≡ Made.Record row → WritesRecord sorts members names ws ts row first many below a b r → WritesMade sorts members names ws ts offset size first many below a b r
-    made-record row e d l g f us q s x k m own hs =
+    pub made-record : (row place : ℕ) → made-as ≡ Made.Record row → Offers a b 0 (bytes "r" ++ (decimal row ++ bytes "(")) place → OpensMade sorts names ws ts offset size first many a b (Opened.Fields first many place)
+    made-record row place e d l p o f us q s below x k m own hs =
         let n = made-name (tablesOf l) below x k f us m in
-        let w = subst (λ (y : Made). RowIs (tablesOf l) (n .0) y) e (row-is l g f q (n .0) (n .1)) in
+        let w = subst (λ (y : Made). RowIs (tablesOf l) (n .0) y) e (row-is l p o f q (n .0) (n .1)) in
         let z = as-record (tablesOf l) below x k f us (n .0) (w .1 .0) (w .1 .1 .0) m (n .1) (w .1 .1 .1) in
         let hs′ = subst (λ (v : Value). HasSort v Loose (tablesOf l) own) (sym (z .3)) hs in
         let u = listed (tablesOf l) below (w .1 .1 .0) us (z .0) (hs′ .fields) (z .1) (z .2) (hs′ .has) in
-        writes-as (vRecord row (z .0)) (k .value) (ap (λ (y : ℕ). vRecord y (z .0)) (w .0) ∙ z .3) a b r (d l g us s (z .0) u)
+        let v : vRecord row (z .0) ≡ k .value = ap (λ (y : ℕ). vRecord y (z .0)) (w .0) ∙ z .3 in
+        (bytes "r" ++ (decimal row ++ bytes "("), d, subst (λ (y : Value). Fielded (tablesOf l) ws ts below first many y (bytes "r" ++ (decimal row ++ bytes "("))) v (record-fielded (tablesOf l) ws ts below first many row us (z .0) s u))
 
-    pub made-nothing : made-as ≡ Made.NoName → WritesMade sorts members names ws ts offset size first many below a b r
-    made-nothing e l g f us q s x k m own hs =
+    pub made-nothing : (r : Opened) → made-as ≡ Made.NoName → OpensMade sorts names ws ts offset size first many a b r
+    made-nothing r e l p o f us q s below x k m own hs =
         let n = made-name (tablesOf l) below x k f us m in
-        absurd (subst (λ (y : Made). RowIs (tablesOf l) (n .0) y) e (row-is l g f q (n .0) (n .1)) f (n .1))
+        absurd (subst (λ (y : Made). RowIs (tablesOf l) (n .0) y) e (row-is l p o f q (n .0) (n .1)) f (n .1))
 
-  module _ (i below : ℕ) (found : Found) (at : ShapeAt ws ts i found) (a b : List ℕ) (r : ℕ) where
-    abbrev Arm : Found → Type 0
-    Arm f = (l : Lent) → Given sorts members names l → (us : Trees) → Standing (app us) ws ts i → (e : Option ℕ) (k : Lit) → read (tablesOf l) (suc below) e (app us) ≡ ok k →
-        Shows ws ts f (shape us) → Reads (tablesOf l) below e k (shape us) → (row : ℕ) → HasSort (k .value) Loose (tablesOf l) row → Writes (k .value) a b r
+  module _ (i : ℕ) (found : Found) (at : ShapeAt ws ts i found) (a b : List ℕ) where
+    abbrev Arm : Opened → Found → Type 0
+    Arm o f = (l : Lent) → l .sorts ≡ sorts → l .names ≡ names → (us : Trees) (below : ℕ) (e : Option ℕ) (k : Lit) →
+        Shows ws ts f (shape us) → Reads (tablesOf l) below e k (shape us) → (row : ℕ) → HasSort (k .value) Loose (tablesOf l) row → Opens (tablesOf l) ws ts below (k .value) a b o
 
-    by-arm : (f : Found) → found ≡ f → Arm f → WritesApp sorts members names ws ts i below a b r
-    by-arm f e h l g us s x k m row hs = h l g us s x k m (subst (λ (y : Found). Shows ws ts y (shape us)) e (at us s)) (app-reads (tablesOf l) below x k us m) row hs
+    by-arm : (o : Opened) (f : Found) → found ≡ f → Arm o f → OpensApp sorts names ws ts i a b o
+    by-arm o f e h l p n us s below x k m row hs = h l p n us below x k (subst (λ (y : Found). Shows ws ts y (shape us)) e (at us s)) (app-reads (tablesOf l) below x k us m) row hs
 
-    abbrev At : (l : Lent) → Option ℕ → Lit → Shape → Type 0
-    At l e k s = Reads (tablesOf l) below e k s
+    abbrev At : (l : Lent) → ℕ → Option ℕ → Lit → Shape → Type 0
+    At l below e k s = Reads (tablesOf l) below e k s
 
-    pub app-operator : found ≡ Found.Operator → WritesApp sorts members names ws ts i below a b r
-    app-operator e = by-arm Found.Operator e (λ l g us s x k m w q row hs. refuses (subst (At l x k) w q))
+    -- what is no literal
+    pub app-other : (o : Opened) → OneOf (0 ∷ 10 ∷ []) (tagOf FoundType.the-type found) → OpensApp sorts names ws ts i a b o
+    app-other o h = by-arm o found refl (λ l p n us below x k w q row hs. go found h (shape us) w (λ e. refuses (subst (At l below x k) e q)) (λ e. refuses (subst (At l below x k) e q)))
+      where
+        go : {R : Type 0} (f : Found) → OneOf (0 ∷ 10 ∷ []) (tagOf FoundType.the-type f) → (s : Shape) → Shows ws ts f s → (s ≡ operator → R) → (s ≡ other → R) → R
+        go Found.Operator h s w u v = u w
+        go (Found.AsNone sort) h s w u v = absurd (miss (0 ∷ 10 ∷ []) 1 tt h)
+        go (Found.AsSome sort value) h s w u v = absurd (miss (0 ∷ 10 ∷ []) 2 tt h)
+        go (Found.SomeOf value) h s w u v = absurd (miss (0 ∷ 10 ∷ []) 3 tt h)
+        go (Found.AsEmpty sort) h s w u v = absurd (miss (0 ∷ 10 ∷ []) 4 tt h)
+        go (Found.Singleton value) h s w u v = absurd (miss (0 ∷ 10 ∷ []) 5 tt h)
+        go (Found.Union left right) h s w u v = absurd (miss (0 ∷ 10 ∷ []) 6 tt h)
+        go (Found.Extension kind low) h s w u v = absurd (miss (0 ∷ 10 ∷ []) 7 tt h)
+        go (Found.Indexed offset size low high) h s w u v = absurd (miss (0 ∷ 10 ∷ []) 8 tt h)
+        go (Found.Made offset size first many) h s w u v = absurd (miss (0 ∷ 10 ∷ []) 9 tt h)
+        go Found.Other h s w u v = v w
 
-    pub app-other : found ≡ Found.Other → WritesApp sorts members names ws ts i below a b r
-    app-other e = by-arm Found.Other e (λ l g us s x k m w q row hs. refuses (subst (At l x k) w q))
-
-    pub app-none : (sort : ℕ) → found ≡ Found.AsNone sort → Offers a b 0 (bytes "none") r → WritesApp sorts members names ws ts i below a b r
+    pub app-none : (sort r : ℕ) → found ≡ Found.AsNone sort → Offers a b 0 (bytes "none") r → OpensApp sorts names ws ts i a b (Opened.Whole r)
     unfolding text normal
-    app-none sort e f = by-arm (Found.AsNone sort) e (λ l g us s x k m w q row hs.
-        writes-as vNone (k .value) (as-none (tablesOf l) below x k (w .0) (subst (At l x k) (w .1) q)) a b r (writes-plain vNone refl f))
+    app-none sort r e f = by-arm (Opened.Whole r) (Found.AsNone sort) e (λ l p n us below x k w q row hs.
+        writes-as vNone (k .value) (as-none (tablesOf l) below x k (w .0) (subst (At l below x k) (w .1) q)) a b r (writes-plain vNone refl f))
 
-    inner-some : (l : Lent) → Given sorts members names l → (value : ℕ) (v : Tree) → Standing v ws ts value → (k : Lit) → Inner (tablesOf l) below v vSome (k .value) → (row : ℕ) → HasSort (k .value) Loose (tablesOf l) row →
-        WritesSome sorts members names ws ts value below a b r → Writes (k .value) a b r
-    inner-some l g value v st k n row hs d =
-        let hs′ = subst (λ (x : Value). HasSort x Loose (tablesOf l) row) (sym (n .is)) hs in
-        writes-as (vSome (n .inner .value)) (k .value) (n .is) a b r (d l g v st (n .expected) (n .inner) (n .was) (hs′ .inner) (hs′ .has))
+    pub app-as-some : (sort value place : ℕ) → found ≡ Found.AsSome sort value → Offers a b 0 (bytes "some(") place → OpensApp sorts names ws ts i a b (Opened.Fields value 1 place)
+    app-as-some sort value place e d = by-arm (Opened.Fields value 1 place) (Found.AsSome sort value) e (λ l p n us below x k w q row hs.
+        (bytes "some(", d, some-fielded (tablesOf l) ws ts below value (w .1) (w .4) (k .value) (as-some (tablesOf l) below x k (w .0) (w .1) (subst (At l below x k) (w .2) q)) row hs))
 
-    pub app-as-some : (sort value : ℕ) → found ≡ Found.AsSome sort value → WritesSome sorts members names ws ts value below a b r → WritesApp sorts members names ws ts i below a b r
-    app-as-some sort value e d = by-arm (Found.AsSome sort value) e (λ l g us s x k m w q row hs.
-        inner-some l g value (w .1) (w .4) k (as-some (tablesOf l) below x k (w .0) (w .1) (subst (At l x k) (w .2) q)) row hs d)
+    pub app-some : (value place : ℕ) → found ≡ Found.SomeOf value → Offers a b 0 (bytes "some(") place → OpensApp sorts names ws ts i a b (Opened.Fields value 1 place)
+    app-some value place e d = by-arm (Opened.Fields value 1 place) (Found.SomeOf value) e (λ l p n us below x k w q row hs.
+        (bytes "some(", d, some-fielded (tablesOf l) ws ts below value (w .0) (w .2) (k .value) (some-of (tablesOf l) below x k (w .0) (subst (At l below x k) (w .1) q)) row hs))
 
-    pub app-some : (value : ℕ) → found ≡ Found.SomeOf value → WritesSome sorts members names ws ts value below a b r → WritesApp sorts members names ws ts i below a b r
-    app-some value e d = by-arm (Found.SomeOf value) e (λ l g us s x k m w q row hs.
-        inner-some l g value (w .0) (w .2) k (some-of (tablesOf l) below x k (w .0) (subst (At l x k) (w .1) q)) row hs d)
+    shown-set : (f : Found) → OneOf (4 ∷ 5 ∷ 6 ∷ []) (tagOf FoundType.the-type f) → (s : Shape) → Shows ws ts f s → (T : Tables) (below : ℕ) (e : Option ℕ) (k : Lit) → setShape T below e k s ≡ true
+    shown-set Found.Operator h s w T below e k = absurd (miss (4 ∷ 5 ∷ 6 ∷ []) 0 tt h)
+    shown-set (Found.AsNone sort) h s w T below e k = absurd (miss (4 ∷ 5 ∷ 6 ∷ []) 1 tt h)
+    shown-set (Found.AsSome sort value) h s w T below e k = absurd (miss (4 ∷ 5 ∷ 6 ∷ []) 2 tt h)
+    shown-set (Found.SomeOf value) h s w T below e k = absurd (miss (4 ∷ 5 ∷ 6 ∷ []) 3 tt h)
+    shown-set (Found.AsEmpty sort) h s w T below e k = ap (setShape T below e k) (w .1)
+    shown-set (Found.Singleton value) h s w T below e k = ap (setShape T below e k) (w .1)
+    shown-set (Found.Union left right) h s w T below e k = ap (setShape T below e k) (w .2)
+    shown-set (Found.Extension kind low) h s w T below e k = absurd (miss (4 ∷ 5 ∷ 6 ∷ []) 7 tt h)
+    shown-set (Found.Indexed offset size low high) h s w T below e k = absurd (miss (4 ∷ 5 ∷ 6 ∷ []) 8 tt h)
+    shown-set (Found.Made offset size first many) h s w T below e k = absurd (miss (4 ∷ 5 ∷ 6 ∷ []) 9 tt h)
+    shown-set Found.Other h s w T below e k = absurd (miss (4 ∷ 5 ∷ 6 ∷ []) 10 tt h)
 
-    shown-set : (f : Found) (s : Shape) → Shows ws ts f s → setFound f ≡ true → (T : Tables) (e : Option ℕ) (k : Lit) → setShape T below e k s ≡ true
-    shown-set Found.Operator s w h T e k = absurd (true≢false (sym h))
-    shown-set (Found.AsNone sort) s w h T e k = absurd (true≢false (sym h))
-    shown-set (Found.AsSome sort value) s w h T e k = absurd (true≢false (sym h))
-    shown-set (Found.SomeOf value) s w h T e k = absurd (true≢false (sym h))
-    shown-set (Found.AsEmpty sort) s w h T e k = ap (setShape T below e k) (w .1)
-    shown-set (Found.Singleton value) s w h T e k = ap (setShape T below e k) (w .1)
-    shown-set (Found.Union left right) s w h T e k = ap (setShape T below e k) (w .2)
-    shown-set (Found.Extension kind low) s w h T e k = absurd (true≢false (sym h))
-    shown-set (Found.Indexed offset size low high) s w h T e k = absurd (true≢false (sym h))
-    shown-set (Found.Made offset size first many) s w h T e k = absurd (true≢false (sym h))
-    shown-set Found.Other s w h T e k = absurd (true≢false (sym h))
+    pub app-set : (place : ℕ) → OneOf (4 ∷ 5 ∷ 6 ∷ []) (tagOf FoundType.the-type found) → Offers a b 0 (bytes "{") place → OpensApp sorts names ws ts i a b (Opened.Set place)
+    app-set place h f = by-arm (Opened.Set place) found refl (λ l p n us below x k w q row hs.
+        let z = set-shape (tablesOf l) below x k (shape us) q (shown-set found h (shape us) w (tablesOf l) below x k) in
+        (f, (z .0, sym (z .1))))
 
-    pub app-set : setFound found ≡ true → WritesSet sorts members names ws ts i below a b r → WritesApp sorts members names ws ts i below a b r
-    app-set h d = by-arm found refl (λ l g us s x k m w q row hs.
-        let n = set-shape (tablesOf l) below x k (shape us) q (shown-set found (shape us) w h (tablesOf l) x k) in
-        let hs′ = subst (λ (v : Value). HasSort v Loose (tablesOf l) row) (sym (n .1)) hs in
-        writes-as (vSet (n .0)) (k .value) (n .1) a b r (d l g (app us) s x k m (n .0) (sym (n .1)) (hs′ .0 .inner) (hs′ .0 .has)))
-
-    pub app-extension : (kind : Kind) (low : ℕ) → found ≡ Found.Extension kind low → Offers a b 0 (text (vExt (extOf kind) (signed 64 low))) r → WritesApp sorts members names ws ts i below a b r
+    pub app-extension : (kind : Kind) (low r : ℕ) → found ≡ Found.Extension kind low → Offers a b 0 (text (vExt (extOf kind) (signed 64 low))) r → OpensApp sorts names ws ts i a b (Opened.Whole r)
     unfolding normal
-    app-extension kind low e f = by-arm (Found.Extension kind low) e (λ l g us s x k m w q row hs.
-        let v = as-extension (tablesOf l) below x k (extOf kind) (w .0) (subst (At l x k) (w .1) q) in
+    app-extension kind low r e f = by-arm (Opened.Whole r) (Found.Extension kind low) e (λ l p n us below x k w q row hs.
+        let v = as-extension (tablesOf l) below x k (extOf kind) (w .0) (subst (At l below x k) (w .1) q) in
         writes-as (vExt (extOf kind) (signed 64 low)) (k .value) (ap (λ (n : ℕ). vExt (extOf kind) (signed 64 n)) (w .2) ∙ v) a b r (writes-plain (vExt (extOf kind) (signed 64 low)) refl f))
 
-    pub app-indexed : (offset size low high : ℕ) → found ≡ Found.Indexed offset size low high → IndexedText (textAt ts offset size) low a b r → WritesApp sorts members names ws ts i below a b r
+    pub app-indexed : (offset size low high r : ℕ) → found ≡ Found.Indexed offset size low high → IndexedText (textAt ts offset size) low a b r → OpensApp sorts names ws ts i a b (Opened.Whole r)
     unfolding normal
-    app-indexed offset size low high e f = by-arm (Found.Indexed offset size low high) e (λ l g us s x k m w q row hs.
-        let n = as-indexed (tablesOf l) below x k (w .0) (low + high * 2 ^ 64) (subst (At l x k) (w .1) q) in
+    app-indexed offset size low high r e f = by-arm (Opened.Whole r) (Found.Indexed offset size low high) e (λ l p n′ us below x k w q row hs.
+        let n = as-indexed (tablesOf l) below x k (w .0) (low + high * 2 ^ 64) (subst (At l below x k) (w .1) q) in
         let z : low + high * 2 ^ 64 ≡ low = narrow low high (n .small) in
         let v : vBits low (n .number) ≡ k .value = ap (λ (y : ℕ). vBits y (n .number)) (sym z) ∙ n .is in
         let hs′ = subst (λ (y : Value). HasSort y Loose (tablesOf l) row) (sym v) hs in
@@ -174,6 +210,6 @@ module _ (sorts members names ws ts : List ℕ) where
         narrow : (low high : ℕ) → low + high * 2 ^ 64 < 2 ^ 32 → low + high * 2 ^ 64 ≡ low
         narrow low high h = omega arith
 
-    pub app-made : (offset size first many : ℕ) → found ≡ Found.Made offset size first many → WritesMade sorts members names ws ts offset size first many below a b r → WritesApp sorts members names ws ts i below a b r
-    app-made offset size first many e d = by-arm (Found.Made offset size first many) e (λ l g us s x k m w q row hs.
-        d l g (w .0) (w .1) (w .3) (w .4) x k (subst (At l x k) (w .2) q) row hs)
+    pub app-made : (o : Opened) (offset size first many : ℕ) → found ≡ Found.Made offset size first many → OpensMade sorts names ws ts offset size first many a b o → OpensApp sorts names ws ts i a b o
+    app-made o offset size first many e d = by-arm o (Found.Made offset size first many) e (λ l p n us below x k w q row hs.
+        d l p n (w .0) (w .1) (w .3) (w .4) below x k (subst (At l below x k) (w .2) q) row hs)

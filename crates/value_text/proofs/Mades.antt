@@ -2,11 +2,13 @@
 -- Assumes nothing.
 use mathlib.Core.Path.{_≡_, refl, sym, ap, _∙_, subst}
 use mathlib.Core.Bool.{Bool, true, false, true≢false}
-use mathlib.Core.List.{List}
+use mathlib.Core.List.{List, [], _∷_}
 use mathlib.Core.Logic.{inl, inr}
 use mathlib.Core.Option.{Option, none, some}
 use Prim.Native.Nat.{ℕ}
 use native.Mathlib.Omega.{arith}
+use types.Run.{OneOf, miss}
+use denote.Enum.Declared.{tagOf}
 use Rattle.ground.specs.Lists.{at}
 use Rattle.tables.specs.declared.find.Found.{Found}
 use Rattle.tables.specs.declared.sort.SortRow.{SortRow}
@@ -16,6 +18,7 @@ use Rattle.tables.specs.Lookup.{FindsNamed}
 use Rattle.tables.specs.Sort.{Sort, bool, string, ext, bitVec, optionOf, setOf, entityOf, recordOf}
 use Rattle.tables.specs.View.{sortRowAt, meant}
 use Rattle.tables.proofs.Sorts.{row-meant}
+use Rattle.tables.proofs.sort.SortRow as RowType
 use Rattle.literals.proofs.Forms.{found-row, found-none}
 use Rattle.well_sorted.proofs.Finds.{IsNamed, named-is}
 use Rattle.value_text.specs.declared.made.Made.{Made}
@@ -36,7 +39,7 @@ is-named : (name : List ℕ) (s : Sort) → IsNamed name s → named (some s) �
 is-named name s (inl e) = ap (λ (x : Sort). named (some x)) e
 is-named name s (inr (fs, e)) = ap (λ (x : Sort). named (some x)) e
 
-abbrev pub nameless : SortRow → Bool
+abbrev nameless : SortRow → Bool
 nameless SortRow.Bool = true
 nameless SortRow.String = true
 nameless SortRow.Decimal = true
@@ -48,6 +51,19 @@ nameless (SortRow.Set row) = true
 nameless SortRow.Entity = false
 nameless (SortRow.Record first size) = false
 nameless SortRow.NoRow = true
+
+nameless-else : (s : SortRow) → OneOf (0 ∷ 1 ∷ 2 ∷ 3 ∷ 4 ∷ 5 ∷ 6 ∷ 7 ∷ 10 ∷ []) (tagOf RowType.the-type s) → nameless s ≡ true
+nameless-else SortRow.Bool h = refl
+nameless-else SortRow.String h = refl
+nameless-else SortRow.Decimal h = refl
+nameless-else SortRow.Datetime h = refl
+nameless-else SortRow.Duration h = refl
+nameless-else (SortRow.BitVec width) h = refl
+nameless-else (SortRow.Option row) h = refl
+nameless-else (SortRow.Set row) h = refl
+nameless-else SortRow.Entity h = absurd (miss (0 ∷ 1 ∷ 2 ∷ 3 ∷ 4 ∷ 5 ∷ 6 ∷ 7 ∷ 10 ∷ []) 8 tt h)
+nameless-else (SortRow.Record first size) h = absurd (miss (0 ∷ 1 ∷ 2 ∷ 3 ∷ 4 ∷ 5 ∷ 6 ∷ 7 ∷ 10 ∷ []) 9 tt h)
+nameless-else SortRow.NoRow h = refl
 
 meant-nameless : (l : Lent) (i : ℕ) (s : SortRow) → nameless s ≡ true → named (meant l i s) ≡ false
 meant-nameless l i SortRow.Bool h = refl
@@ -66,10 +82,10 @@ module _ (sorts : List ℕ) (row : ℕ) (q : SortRow) (there : q ≡ sortRowAt s
   meaning : (l : Lent) → l .sorts ≡ sorts → at (tablesOf l .sorts) row ≡ meant l row q
   meaning l e = row-meant l row ∙ ap (λ (ws : List ℕ). meant l row (sortRowAt ws row)) e ∙ ap (meant l row) (sym there)
 
-  pub made-nameless : nameless q ≡ true → MadeRow sorts row Made.NoName
+  pub made-nameless : OneOf (0 ∷ 1 ∷ 2 ∷ 3 ∷ 4 ∷ 5 ∷ 6 ∷ 7 ∷ 10 ∷ []) (tagOf RowType.the-type q) → MadeRow sorts row Made.NoName
   made-nameless h l e name f =
       let n = named-is (tablesOf l) row name f in
-      absurd (true≢false (sym (is-named name (n .0) (n .2)) ∙ ap named (sym (n .1) ∙ meaning l e) ∙ meant-nameless l row q h))
+      absurd (true≢false (sym (is-named name (n .0) (n .2)) ∙ ap named (sym (n .1) ∙ meaning l e) ∙ meant-nameless l row q (nameless-else q h)))
 
   pub made-entity : q ≡ SortRow.Entity → MadeRow sorts row (Made.Entity row)
   made-entity h l e = (refl, (nameAt (l .names) (l .sorts) row, meaning l e ∙ ap (meant l row) h))

@@ -8,6 +8,8 @@ use Prim.Native.Nat.{ℕ, zero, suc, _+_, _-_, _^_, _≤_, _<_}
 use native.Mathlib.Omega.{arith}
 use lib.ListN.{length, take, drop}
 use borrow.Rule.Slice.PartMut.{putMid}
+use types.Run.{OneOf, miss}
+use denote.Enum.Declared.{tagOf}
 use Rattle.ground.specs.Bytes.{bytes}
 use Rattle.ground.specs.Lists.{joined}
 use Rattle.lent.specs.Put.{Offers}
@@ -18,6 +20,7 @@ use Rattle.arena.specs.Tree.{Tree, Trees}
 use Rattle.tables.specs.Layout.{Lent, tablesOf}
 use Rattle.tables.specs.Sort.{Tables}
 use Rattle.shapes.specs.declared.shape.Found.{Found}
+use Rattle.shapes.proofs.shape.Found as FoundType
 use Rattle.shapes.specs.Shape.{Shape, shape}
 use Rattle.shapes.specs.Shows.{Standing, Shows, ShapeAt}
 use Rattle.sorts.specs.Result.{ok}
@@ -35,12 +38,13 @@ use Rattle.well_sorted.proofs.Results.{refuses}
 use Rattle.value_text.specs.Closed.{closed, Closes}
 use Rattle.value_text.specs.Laid.{Laid, Lays}
 use Rattle.value_text.specs.Wrote.{Wrote}
-use Rattle.value_text.specs.Value.{Given, WritesInside, WritesMembers, WritesSet}
+use Rattle.value_text.specs.Opened.{ClosesSet}
+use Rattle.value_text.specs.Value.{Given, WritesInside, WritesMembers}
 use Rattle.value_text.proofs.Arms.{no-set, same-set, Reads, app-reads, as-empty, as-singleton, as-union, setShape, other-shape, set-app}
 use Rattle.value_text.proofs.Closes.{length-closed}
 use Rattle.value_text.proofs.Lays.{lays-then, lays-put, lays-none, lays-as, laid-part, lays-part, wrote-front}
 
-abbrev pub setFound : Found → Bool
+abbrev setFound : Found → Bool
 setFound Found.Operator = false
 setFound (Found.AsNone sort) = false
 setFound (Found.AsSome sort value) = false
@@ -107,16 +111,33 @@ module _ (sorts members names ws ts : List ℕ) (i : ℕ) (found : Found) (at : 
         let m′ = subst (λ (x : Tree). read (tablesOf l) (suc below) e x ≡ ok k) (u .1) m in
         f l g (u .0) e k (at (u .0) s′) (app-reads (tablesOf l) below e k (u .0) m′) vs h row hs
 
-  pub members-other : (below : ℕ) (a : List ℕ) (place : ℕ) → setFound found ≡ false → WritesMembers sorts members names ws ts i below a a place place
+  members-other : (below : ℕ) (a : List ℕ) (place : ℕ) → setFound found ≡ false → WritesMembers sorts members names ws ts i below a a place place
   members-other below a place h = by-arm below a a place place (λ l g us e k w m vs q row hs.
       no-set (k .value) vs (other-shape (tablesOf l) below e k (shape us) m (shown-other (shape us) w h (tablesOf l) below e k)) q)
 
-  pub members-empty : (below : ℕ) (a : List ℕ) (place sort : ℕ) → found ≡ Found.AsEmpty sort → WritesMembers sorts members names ws ts i below a a place place
+  members-empty : (below : ℕ) (a : List ℕ) (place sort : ℕ) → found ≡ Found.AsEmpty sort → WritesMembers sorts members names ws ts i below a a place place
   unfolding run text normal
   members-empty below a place sort f = by-arm below a a place place (λ l g us e k w m vs q row hs.
       let x = subst (λ (y : Found). Shows ws ts y (shape us)) f w in
       let z : vNil ≡ vs = same-set vNil vs (as-empty (tablesOf l) below e k (x .0) (subst (λ (y : Shape). Reads (tablesOf l) below e k y) (x .1) m) ∙ q) in
       subst (λ (us : Values). Lays (run (texts us)) (run (texts (normals us))) a a place place) z (lays-none a place))
+
+  -- a set without members, and what is no set
+  pub members-else : (below : ℕ) (a : List ℕ) (place : ℕ) → OneOf (0 ∷ 1 ∷ 2 ∷ 3 ∷ 4 ∷ 7 ∷ 8 ∷ 9 ∷ 10 ∷ []) (tagOf FoundType.the-type found) → WritesMembers sorts members names ws ts i below a a place place
+  members-else below a place h = go found refl h
+    where
+      go : (f : Found) → found ≡ f → OneOf (0 ∷ 1 ∷ 2 ∷ 3 ∷ 4 ∷ 7 ∷ 8 ∷ 9 ∷ 10 ∷ []) (tagOf FoundType.the-type f) → WritesMembers sorts members names ws ts i below a a place place
+      go Found.Operator e h = members-other below a place (ap setFound e)
+      go (Found.AsNone sort) e h = members-other below a place (ap setFound e)
+      go (Found.AsSome sort value) e h = members-other below a place (ap setFound e)
+      go (Found.SomeOf value) e h = members-other below a place (ap setFound e)
+      go (Found.AsEmpty sort) e h = members-empty below a place sort e
+      go (Found.Singleton value) e h = absurd (miss (0 ∷ 1 ∷ 2 ∷ 3 ∷ 4 ∷ 7 ∷ 8 ∷ 9 ∷ 10 ∷ []) 5 tt h)
+      go (Found.Union left right) e h = absurd (miss (0 ∷ 1 ∷ 2 ∷ 3 ∷ 4 ∷ 7 ∷ 8 ∷ 9 ∷ 10 ∷ []) 6 tt h)
+      go (Found.Extension kind low) e h = members-other below a place (ap setFound e)
+      go (Found.Indexed offset size low high) e h = members-other below a place (ap setFound e)
+      go (Found.Made offset size first many) e h = members-other below a place (ap setFound e)
+      go Found.Other e h = members-other below a place (ap setFound e)
 
   pub members-one : (below : ℕ) (a b c : List ℕ) (place one r value : ℕ) → found ≡ Found.Singleton value → WritesInside sorts members names ws ts value below a b place one → Offers b c one (0 ∷ []) r →
       WritesMembers sorts members names ws ts i below a c place r
@@ -172,7 +193,7 @@ unfolding joined
 closed-most [] n h k = omega arith
 closed-most (r ∷ rs) n h k = omega (arith, length-closed r rs)
 
-module _ (sorts members names ws ts : List ℕ) (i below : ℕ) (a b c : List ℕ) (one two : ℕ) (first : Offers a b 0 (bytes "{") one) (rest : WritesMembers sorts members names ws ts i below b c one two) where
+module _ (a b c : List ℕ) (one two : ℕ) (first : Offers a b 0 (bytes "{") one) where
   -- what the members' writer laid, where there is room for the set
   record Inside (vs : Values) : Type 0 where
     begins : one ≡ 1
@@ -208,20 +229,17 @@ module _ (sorts members names ws ts : List ℕ) (i below : ℕ) (a b c : List �
   none-is d r o vNil n room f = wrote-front (lays-then (lays-put first) (lays-then (nothing-laid f) (lays-put o))) room
   none-is d r o (vCons v vs) n room f = let q = inside (vCons v vs) room f in let z = q .laid .after in absurd (omega (arith, some-run v vs))
 
-  pub set-none : two ≤ one → (d : List ℕ) (r : ℕ) → Offers c d one (bytes "}") r → WritesSet sorts members names ws ts i below a d r
-  set-none n d r o l g t s e k m vs h row hs room = none-is d r o vs n room (rest l g t s e k m vs h row hs)
-
   -- there is room for what was laid
-  pub set-short : length c < two → (d : List ℕ) (r : ℕ) → WritesSet sorts members names ws ts i below a d r
-  set-short n d r l g t s e k m vs h row hs room =
-      let q = inside vs room (rest l g t s e k m vs h row hs) in
+  short-is : length c < two → (d : List ℕ) (r : ℕ) (vs : Values) → Room vs → Rest vs → Writes vs d r
+  short-is n d r vs room f =
+      let q = inside vs room f in
       let qa = q .laid .after in
       let qw = q .laid .within in
       let qs = q .laid .same in
       let qr = q .room in
       absurd (omega arith)
 
-  module _ (more : one < two) (within : two ≤ length c) (small : length a < 2 ^ 64) (part : List ℕ) (count next : ℕ) (long : length part ≡ length (take (two - one) (drop one c)))
+  module _ (more : one < two) (within : two ≤ length c) (small : length c < 2 ^ 64) (part : List ℕ) (count next : ℕ) (long : length part ≡ length (take (two - one) (drop one c)))
       (closes : Closes (take (two - one) (drop one c)) part count) (after : next ≡ capped (one + count)) where
     closed-is : (T : Tables) (row : ℕ) (vs : Values) → HaveSort vs Loose T row → Room vs → Rest vs → Writes vs (putMid one (two - one) c part) next
     unfolding text normal run
@@ -234,10 +252,17 @@ module _ (sorts members names ws ts : List ℕ) (i below : ℕ) (a b c : List �
         let n : length part ≡ two - one = long ∙ ap length p ∙ (let z = q .laid .after in let y : length (run (texts (normals (vCons v vs)))) ≡ two - one = omega arith in y) in
         let few : length (closed (arranged key true (texts (normals (vCons v vs))))) ≤ length (run (texts (normals (vCons v vs)))) =
         closed-most (arranged key true (texts (normals (vCons v vs)))) (length (run (texts (normals (vCons v vs))))) (arranged-long true (texts (normals (vCons v vs)))) (some-run v vs) in
-        let laid = lays-part c part one two (omega arith) within n {x′ = closed (text v ∷ texts vs)} f (sym (length-closed (text v) (texts vs))) (w .long) few (w .front) after (omega (arith, q .long)) in
+        let laid = lays-part c part one two (omega arith) within n {x′ = closed (text v ∷ texts vs)} f (sym (length-closed (text v) (texts vs))) (w .long) few (w .front) after (omega (arith, q .laid .same)) in
         wrote-front
         (lays-then (lays-put first)
         (lays-as refl (ap closed (sym (members-arranged Ascending T row (normals (vCons v vs)) fit))) laid)) room
 
-    pub set-closed : WritesSet sorts members names ws ts i below a (putMid one (two - one) c part) next
-    set-closed l g t s e k m vs h row hs room = closed-is (tablesOf l) row vs hs room (rest l g t s e k m vs h row hs)
+pub set-none : (c d : List ℕ) (one two r : ℕ) → two ≤ one → Offers c d one (bytes "}") r → ClosesSet c d one two r
+set-none c d one two r n o a b f T row vs hs rest room = none-is a b c one two f d r o vs n room rest
+
+pub set-short : (c d : List ℕ) (one two r : ℕ) → length c < two → ClosesSet c d one two r
+set-short c d one two r n a b f T row vs hs rest room = short-is a b c one two f n d r vs room rest
+
+pub set-closed : (c part : List ℕ) (one two count r : ℕ) → one < two → two ≤ length c → length c < 2 ^ 64 → length part ≡ length (take (two - one) (drop one c)) → Closes (take (two - one) (drop one c)) part count →
+    r ≡ capped (one + count) → ClosesSet c (putMid one (two - one) c part) one two r
+set-closed c part one two count r more within small long closes after a b f T row vs hs rest room = closed-is a b c one two f more within small part count r long closes after T row vs hs room rest

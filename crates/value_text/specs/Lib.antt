@@ -4,3 +4,4 @@ pub mod Leaf
 pub mod Made
 pub mod Closed
 pub mod Value
+pub mod Opened

@@ -54,17 +54,14 @@ module _ (sorts members names ws ts : List ℕ) where
       (l : Lent) → Given sorts members names l → (t : Tree) → Standing t ws ts i → (expected : Option ℕ) (k : Lit) → read (tablesOf l) allow expected t ≡ ok k →
       (row : ℕ) → HasSort (k .value) Loose (tablesOf l) row → P (k .value)
 
-  -- the value at a node at the front, at a place, and inside `some(..)`
+  -- the value at a node at the front, and at a place
   abbrev pub WritesValue : ℕ → ℕ → List ℕ → List ℕ → ℕ → Type 0
   WritesValue i allow entry exit r = ReadAt i allow (λ v. Writes v entry exit r)
 
   abbrev pub WritesInside : ℕ → ℕ → List ℕ → List ℕ → ℕ → ℕ → Type 0
   WritesInside i allow entry exit place r = ReadAt i allow (λ v. Lays (text v) (text (normal v)) entry exit place r)
 
-  abbrev pub WritesSome : ℕ → ℕ → List ℕ → List ℕ → ℕ → Type 0
-  WritesSome i allow entry exit r = ReadAt i allow (λ v. Writes (vSome v) entry exit r)
-
-  -- the set at a node, with so many levels below it: its members, each ended, and the whole
+  -- the set at a node, with so many levels below it: its members, each ended
   abbrev pub SetAt : ℕ → ℕ → (Values → Type 0) → Type 0
   SetAt i below P =
       (l : Lent) → Given sorts members names l → (t : Tree) → Standing t ws ts i → (expected : Option ℕ) (k : Lit) → read (tablesOf l) (suc below) expected t ≡ ok k →
@@ -73,10 +70,7 @@ module _ (sorts members names ws ts : List ℕ) where
   abbrev pub WritesMembers : ℕ → ℕ → List ℕ → List ℕ → ℕ → ℕ → Type 0
   WritesMembers i below entry exit place r = SetAt i below (λ vs. Lays (run (texts vs)) (run (texts (normals vs))) entry exit place r)
 
-  abbrev pub WritesSet : ℕ → ℕ → List ℕ → List ℕ → ℕ → Type 0
-  WritesSet i below entry exit r = SetAt i below (λ vs. Writes (vSet vs) entry exit r)
-
-  -- so many fields from a node on, and a record of them
+  -- so many fields from a node on
   abbrev pub FieldsAt : ℕ → ℕ → ℕ → (Values → Type 0) → Type 0
   FieldsAt first many allow P =
       (l : Lent) → Given sorts members names l → (us : Trees) → StandingAll us ws ts first many → (vs : Values) → Listed (tablesOf l) allow us vs → P vs
@@ -84,18 +78,3 @@ module _ (sorts members names ws ts : List ℕ) where
   abbrev pub WritesFields : ℕ → ℕ → ℕ → List ℕ → List ℕ → ℕ → ℕ → Type 0
   WritesFields first many allow entry exit place r =
       FieldsAt first many allow (λ vs. Lays (onward 0 (texts vs)) (onward 0 (texts (normals vs))) entry exit place r)
-
-  abbrev pub WritesRecord : ℕ → ℕ → ℕ → ℕ → List ℕ → List ℕ → ℕ → Type 0
-  WritesRecord row first many allow entry exit r = FieldsAt first many allow (λ vs. Writes (vRecord row vs) entry exit r)
-
-  -- an application, and that of a name
-  abbrev pub WritesMade : ℕ → ℕ → ℕ → ℕ → ℕ → List ℕ → List ℕ → ℕ → Type 0
-  WritesMade offset size first many below entry exit r =
-      (l : Lent) → Given sorts members names l → (f : List ℕ) (us : Trees) → Reads f ts offset size → StandingAll us ws ts first many → (expected : Option ℕ) (k : Lit) →
-      appLit (tablesOf l) (λ t. readSort (tablesOf l) below t) (λ e u. read (tablesOf l) below e u) expected (made f us) ≡ ok k →
-      (row : ℕ) → HasSort (k .value) Loose (tablesOf l) row → Writes (k .value) entry exit r
-
-  abbrev pub WritesApp : ℕ → ℕ → List ℕ → List ℕ → ℕ → Type 0
-  WritesApp i below entry exit r =
-      (l : Lent) → Given sorts members names l → (us : Trees) → Standing (app us) ws ts i → (expected : Option ℕ) (k : Lit) → read (tablesOf l) (suc below) expected (app us) ≡ ok k →
-      (row : ℕ) → HasSort (k .value) Loose (tablesOf l) row → Writes (k .value) entry exit r

@@ -19,12 +19,16 @@ use tables::find_member;
 use tables::word;
 use words::Pair;
 use words::Parsed;
+ghost use mathlib.Core.Path.{_≡_};
+ghost use mathlib.Core.Bool.{_||_};
+ghost use mathlib.Core.List.{[], _∷_, _++_};
 ghost use Prim.Native.Nat.{_%_, _^_};
+ghost use Rattle.ground.specs.Bytes.{bytes};
 ghost use Rattle.lent.specs.Put.{Offers};
 ghost use Rattle.decimals.specs.Decimal.{decimal, signedDecimal};
 ghost use Rattle.words.specs.Pair.{value};
 ghost use Rattle.words.specs.Extension.{signed};
-ghost use Rattle.arena.specs.Text.{textAt};
+ghost use Rattle.arena.specs.Text.{textAt, sameText};
 ghost use Rattle.shapes.specs.Shows.{extOf};
 ghost use Rattle.values.specs.Value.{vBits, vString, vEntity, vExt};
 ghost use Rattle.values.specs.Text.{text as shown, mark};
@@ -60,14 +64,23 @@ fn write_integer(number: i64, out: &mut [u8], at: usize) -> usize
     at + need
 }
 
+const COLON: u8 = 58;
+
+// What a text begins with: letters, a number in decimal, and a byte.
+pub fn write_head(letters: &[u8], number: u64, last: u8, out: &mut [u8]) -> usize
+    ensures { λ r. ⌜ Offers (now (out .entry)) (now (out .exit)) 0 (now (letters .entry) ++ (decimal number ++ (last ∷ []))) r ⌝ }
+{
+    let one = put(letters, out, 0);
+    let two = write_number(number, out, one);
+    put(&[last], out, two)
+}
+
 // `bv`, the width, `:`, and the digits of the lowest bits.
 pub fn write_bits(number: Pair, width: u64, out: &mut [u8]) -> usize
     ensures { λ r. ⌜ Offers (now (out .entry)) (now (out .exit)) 0 (shown (vBits width (value number % 2 ^ width))) r ⌝ }
 {
-    let one = put(b"bv", out, 0);
-    let two = write_number(width, out, one);
-    let three = put(b":", out, two);
-    write_digits(low_bits(number, width), hex_width(width), out, three)
+    let one = write_head(b"bv", width, COLON, out);
+    write_digits(low_bits(number, width), hex_width(width), out, one)
 }
 
 // (_ bvN W)
@@ -99,10 +112,8 @@ pub fn write_string(text: &[u8], offset: u64, size: u64, out: &mut [u8]) -> usiz
 fn write_entity(row: usize, name: &[u8], out: &mut [u8]) -> usize
     ensures { λ r. ⌜ Offers (now (out .entry)) (now (out .exit)) 0 (shown (vEntity row (now (name .entry)))) r ⌝ }
 {
-    let one = put(b"e", out, 0);
-    let two = write_number(row as u64, out, one);
-    let three = put(b":", out, two);
-    write_hex(name, out, three)
+    let one = write_head(b"e", row as u64, COLON, out);
+    write_hex(name, out, one)
 }
 
 // (NAME "text") of a row, the text at a node.
@@ -110,26 +121,13 @@ pub fn write_named(nodes: &[u64], text: &[u8], row: usize, at: usize, out: &mut 
     ensures { λ r. ⌜ EntityText (now (nodes .entry)) (now (text .entry)) row at (now (out .entry)) (now (out .exit)) r ⌝ }
 {
     let node = node_at(nodes, at);
-    match node {
-        Node::BitVec {
-            width: _,
-            low: _,
-            high: _,
-        } => 0,
-        Node::Numeral { low: _, high: _ } => 0,
-        Node::String { size, offset } => {
-            let range = clamp(offset, size, text.len());
-            let start = range.start;
-            let end = range.end;
-            write_entity(row, &text[start..end], out)
-        }
-        Node::Symbol { size: _, offset: _ } => 0,
-        Node::App {
-            children: _,
-            end: _,
-        } => 0,
-        Node::NoNode => 0,
-    }
+    let Node::String { size, offset } = node else {
+        return 0;
+    };
+    let range = clamp(offset, size, text.len());
+    let start = range.start;
+    let end = range.end;
+    write_entity(row, &text[start..end], out)
 }
 
 // The member of a row.
@@ -143,15 +141,21 @@ fn write_member(members: &[u64], names: &[u8], row: usize, out: &mut [u8]) -> us
     write_entity(entity, &names[start..end], out)
 }
 
-// `true`, `false`, or an enum member.
+fn is_truth(name: &[u8]) -> bool
+    ensures { λ r. ⌜ r ≡ (sameText (now (name .entry)) (bytes "true") || sameText (now (name .entry)) (bytes "false")) ⌝ }
+{
+    if same(name, b"true") {
+        return true;
+    }
+    same(name, b"false")
+}
+
+// `true`, `false`, which are written as they are read, or an enum member.
 fn write_name(members: &[u64], names: &[u8], name: &[u8], out: &mut [u8]) -> usize
     ensures { λ r. ⌜ WordText (now (members .entry)) (now (names .entry)) (now (name .entry)) (now (out .entry)) (now (out .exit)) r ⌝ }
 {
-    if same(name, b"true") {
-        return put(b"true", out, 0);
-    }
-    if same(name, b"false") {
-        return put(b"false", out, 0);
+    if is_truth(name) {
+        return put(name, out, 0);
     }
     let found = find_member(members, names, name);
     match found {
@@ -177,13 +181,14 @@ pub fn write_word(
     write_name(members, names, &text[start..end], out)
 }
 
-fn write_mark(kind: Kind, out: &mut [u8]) -> usize
-    ensures { λ r. ⌜ Offers (now (out .entry)) (now (out .exit)) 0 (mark (extOf kind)) r ⌝ }
+// The letter of a mark.
+fn letter_of(kind: Kind) -> u8
+    ensures { λ r. ⌜ mark (extOf kind) ≡ r ∷ bytes ":" ⌝ }
 {
     match kind {
-        Kind::Decimal => put(b"d:", out, 0),
-        Kind::Datetime => put(b"t:", out, 0),
-        Kind::Duration => put(b"u:", out, 0),
+        Kind::Decimal => 100,
+        Kind::Datetime => 116,
+        Kind::Duration => 117,
     }
 }
 
@@ -193,6 +198,6 @@ pub fn write_extension(kind: Kind, low: u64, out: &mut [u8]) -> usize
 {
     let pair = Pair { low, high: 0 };
     let number = pair.signed_low();
-    let one = write_mark(kind, out);
+    let one = put(&[letter_of(kind), COLON], out, 0);
     write_integer(number, out, one)
 }

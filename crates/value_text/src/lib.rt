@@ -2,6 +2,7 @@
 mod hex;
 mod leaf;
 mod made;
+mod open;
 mod set;
 mod value;
 

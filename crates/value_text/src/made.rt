@@ -17,17 +17,9 @@ fn made_row(sorts: &[u64], row: usize) -> Made
 {
     let sort = sort_at(sorts, row);
     match sort {
-        SortRow::Bool => Made::NoName,
-        SortRow::String => Made::NoName,
-        SortRow::Decimal => Made::NoName,
-        SortRow::Datetime => Made::NoName,
-        SortRow::Duration => Made::NoName,
-        SortRow::BitVec(_) => Made::NoName,
-        SortRow::Option(_) => Made::NoName,
-        SortRow::Set(_) => Made::NoName,
         SortRow::Entity => Made::Entity(row),
         SortRow::Record { first: _, size: _ } => Made::Record(row),
-        SortRow::NoRow => Made::NoName,
+        _ => Made::NoName,
     }
 }
 

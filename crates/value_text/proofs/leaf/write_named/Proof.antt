@@ -1,4 +1,4 @@
-use Rattle.value_text.proofs.Leaves.{range-holds, named-string, named-other, isString}
+use Rattle.value_text.proofs.Leaves.{range-holds, named-string, named-other}
 use mathlib.Core.Path.{sym, ap, _∙_}
 use borrow.Author.Needs.{needs}
 use Rattle.value_text.proofs.leaf.write_named.Statement.{statement}
@@ -10,22 +10,10 @@ use Rattle.tables.proofs.clamp.Reads as clamp-reads
 use Rattle.value_text.proofs.leaf.write_entity.Reads as write-entity-reads
 
 returns : tie.Need-returns
-returns c = let a = c .before .before .before .before .before .before .args in named-other (a .nodes .now) (a .text .now) _ _ (a .row) (a .at) _ (c .before .before .node-at .result) (c .before .before .node-at .ensures) (ap isString (c .enum-told .given .1))
+returns c = let a = c .before .before .before .before .before .args in named-other (a .nodes .now) (a .text .now) _ _ (a .row) (a .at) _ (c .before .node-at .result) (c .before .node-at .ensures) (c .match .keys2)
 
 returns-2 : tie.Need-returns-2
-returns-2 c = let a = c .before .before .before .before .before .before .args in named-other (a .nodes .now) (a .text .now) _ _ (a .row) (a .at) _ (c .before .before .node-at .result) (c .before .before .node-at .ensures) (ap isString (c .enum-told2 .given .1))
-
-returns-3 : tie.Need-returns-3
-returns-3 c = let a = c .before .before .before .before .before .before .before .before .before .before .before .before .before .args in named-string (a .nodes .now) (a .text .now) _ _ (a .row) (a .at) _ _ _ _ (sym (c .before .before .before .before .before .before .before .before .before .node-at .ensures) ∙ c .before .before .before .before .before .before .before .node .given .1) (range-holds (a .text .now) _ _ _ (c .before .before .before .before .before .clamp .ensures)) (c .before .before .write-entity .ensures)
-
-returns-4 : tie.Need-returns-4
-returns-4 c = let a = c .before .before .before .before .before .before .args in named-other (a .nodes .now) (a .text .now) _ _ (a .row) (a .at) _ (c .before .before .node-at .result) (c .before .before .node-at .ensures) (ap isString (c .enum-told3 .given .1))
-
-returns-5 : tie.Need-returns-5
-returns-5 c = let a = c .before .before .before .before .before .before .args in named-other (a .nodes .now) (a .text .now) _ _ (a .row) (a .at) _ (c .before .before .node-at .result) (c .before .before .node-at .ensures) (ap isString (c .enum-told4 .given .1))
-
-returns-6 : tie.Need-returns-6
-returns-6 c = let a = c .before .before .before .before .before .before .args in named-other (a .nodes .now) (a .text .now) _ _ (a .row) (a .at) _ (c .before .before .node-at .result) (c .before .before .node-at .ensures) (ap isString (c .enum-told5 .given .1))
+returns-2 c = let a = c .before .before .before .before .before .before .before .before .before .before .before .before .before .args in named-string (a .nodes .now) (a .text .now) _ _ (a .row) (a .at) _ _ _ _ (sym (c .before .before .before .before .before .before .before .before .before .node-at .ensures) ∙ c .before .before .before .before .before .before .before .node .given .1) (range-holds (a .text .now) _ _ _ (c .before .before .before .before .before .clamp .ensures)) (c .before .before .write-entity .ensures)
 
 pub write-named-spec : {M : Type 1} → statement M
 write-named-spec =
@@ -33,20 +21,11 @@ write-named-spec =
     (tie.spec
     (λ c κs. search needs)
     (λ c. search needs)
-    (λ c. search needs)
-    (λ c. search needs)
-    (λ c κs. search needs)
-    (λ c. search needs)
-    (λ c. search needs)
-    (λ c. search needs)
-    (λ c κs. search needs)
-    (λ c. search needs)
-    (λ c. search needs)
-    (λ c. search needs)
     returns
-    returns-2
+    (λ c κs. search needs)
     (λ c. search needs)
-    returns-3
-    returns-4
-    returns-5
-    returns-6)
+    (λ c. search needs)
+    (λ c. search needs)
+    (λ c κs. search needs)
+    (λ c. search needs)
+    returns-2)
