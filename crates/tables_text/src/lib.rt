@@ -2,6 +2,7 @@
 mod line;
 mod number;
 mod parse;
+mod passing;
 mod read;
 mod row;
 mod sort;
