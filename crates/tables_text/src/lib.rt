@@ -2,7 +2,6 @@
 mod line;
 mod number;
 mod parse;
-mod passing;
 mod read;
 mod row;
 mod sort;

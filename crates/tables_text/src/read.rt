@@ -1,5 +1,5 @@
 // The public call: refused before anything is written, or the tables' words.
-use crate::passing::passing_rows;
+use crate::parse::parse_rows;
 use crate::store::answer_for;
 use crate::store::store;
 use refusals::Refusal;
@@ -53,7 +53,7 @@ pub fn read_tables(
     let mut c = row_words();
     let mut d = row_words();
     let mut e = row_words();
-    let parsed = passing_rows(text, &mut a, &mut b, &mut c, &mut d, &mut e);
+    let parsed = parse_rows(text, &mut a, &mut b, &mut c, &mut d, &mut e);
     let answer = answer_for(
         parsed,
         sorts.len(),

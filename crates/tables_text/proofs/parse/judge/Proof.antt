@@ -1,9 +1,9 @@
 use Rattle.tables_text.proofs.Readings.{passing-unparsed, fits-1, fits-2, fits-3, fits-4, fits-5, passing-passed, passing-refused}
 use borrow.Author.Needs.{needs}
-use Rattle.tables_text.proofs.passing.judge.Statement.{statement}
-use Rattle.tables_text.proofs.passing.judge.Tie as tie
-use Rattle.tables_text.proofs.passing.judge.Reads as reads
-use Rattle.tables_text.proofs.passing.judge.Lts as lts
+use Rattle.tables_text.proofs.parse.judge.Statement.{statement}
+use Rattle.tables_text.proofs.parse.judge.Tie as tie
+use Rattle.tables_text.proofs.parse.judge.Reads as reads
+use Rattle.tables_text.proofs.parse.judge.Lts as lts
 use Rattle.tables.proofs.check_tables.Reads as check-tables-reads
 
 returns : tie.Need-returns
