@@ -63,6 +63,16 @@ pub fn read_tables(
         members.len(),
     );
     store(
-        answer, &a, &b, &c, &d, &e, sorts, fields, variables, functions, members,
+        answer,
+        &a,
+        &b,
+        &c,
+        &d,
+        &e,
+        sorts,
+        fields,
+        variables,
+        functions,
+        members,
     )
 }
