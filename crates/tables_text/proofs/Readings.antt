@@ -1,7 +1,7 @@
 -- The reader's decision is what document 01 asks: a text is read exactly if it is the text form of lawful tables.
 -- Assumes nothing.
 use mathlib.Core.Path.{_≡_, refl, sym, ap, ap₂, _∙_, subst}
-use mathlib.Core.Bool.{Bool, true, cond, _&&_, true≢false}
+use mathlib.Core.Bool.{Bool, true, false, cond, _&&_, true≢false}
 use mathlib.Core.List.{List, [], _∷_, _++_, append-nil}
 use mathlib.Core.Option.{Option, none, some}
 use Prim.Native.Nat.{ℕ, zero, suc, _+_, _-_, _≤_, _<_}
@@ -17,25 +17,27 @@ use Rattle.refusals.specs.declared.Refusal.the-variants.{InputTooLong, BadTable
 use Rattle.tables.specs.Sort.{Tables, Member}
 use Rattle.tables.specs.Layout.{Lent}
 use Rattle.tables.specs.Rules.{rowLimit, lawful}
+use Rattle.tables.specs.declared.check.Checked as check-type
 use Rattle.tables.specs.declared.check.Checked.the-variants as check
 use Rattle.tables.specs.Check.{passes, checked}
 use Rattle.tables_text.specs.declared.read.TablesRead.{TablesRead}
-use Rattle.tables_text.specs.declared.read.TablesRead.the-variants.{Refused}
+use Rattle.tables_text.specs.declared.read.TablesRead.the-variants.{Read, Refused}
 use Rattle.tables_text.specs.declared.parse.Parsed.{Parsed}
 use Rattle.tables_text.specs.declared.parse.Parsed.the-variants.{Rows, Other}
 use Rattle.tables_text.specs.Line.{lines, written, writable, oneLine, sortLine, variableLine, functionLine, memberLine}
 use Rattle.tables_text.specs.Words.{laid}
 use Rattle.tables_text.specs.Parse.{apart, spanTo, space, lineFeed, Cut, cutAt, numeral, Led, led, memberAfter, memberIn, sortIn, variableIn, functionIn, Walked, went, lineRow, walk, sortRows, variableRows, functionRows, memberRows, ended, begins, parse}
-use Rattle.tables_text.specs.Parsing.{Held, parsedTold, Parses}
+use Rattle.tables_text.specs.Parsing.{Held, sizes, parsedTold, Parses, passingTold, Passing}
 use Rattle.tables_text.specs.Read.{textLimit, Spells, Buffers, Left, refusing, fitted, Leaves, Reads}
 use Rattle.tables_text.specs.Reading.{judged, ofParsed, ofText, reading}
+use Rattle.tables_text.specs.Fronts.{answerTold, Within, Storable, Stored}
 use Rattle.tables_text.proofs.Cuts.{clear, cut-found, cut-none}
 use Rattle.tables_text.proofs.Clears.{clear-drop, clear-one-line}
 use Rattle.tables_text.proofs.Spelled.{some-equal, over-some, test-some, sort-sound, variable-sound, function-sound, member-sound}
 use Rattle.tables_text.proofs.Parses.{walk-sound}
 use Rattle.tables_text.proofs.Back.{read-back}
 use Rattle.tables_text.proofs.Meanings.{laid-means, laid-formed}
-use Rattle.tables_text.proofs.Stores.{leaves-refused}
+use Rattle.tables_text.proofs.Stores.{leaves-refused, leftBy, fitted-so, read-within}
 
 -- a member's text is on its line
 cut-rest : (byte : ℕ) (s : List ℕ) (c : Cut) → cutAt byte s ≡ some c → drop (suc (spanTo byte s)) s ≡ c .rest
@@ -189,53 +191,66 @@ pub reads-back : (t : Tables) (entry : Buffers) {r : TablesRead} {exit : Buffers
 reads-back t entry h w k d = d .spelled k t (record { same = refl; writable = w; lawful = h })
 
 -- what the code's parts answer
-module _ (entry : Buffers) (l : Lent) where
-  pub judged-passed : (q : check.Passed ≡ checked l) (r : TablesRead) (exit : Buffers)
-      → Leaves (fitted entry (record { sorts = l .sorts; fields = l .fields; variables = l .variables; functions = l .functions; members = l .members; names = [] })) r exit → Leaves (judged entry l) r exit
-  unfolding judged fitted
-  judged-passed q r exit f =
-      by-test (passes l)
-      (λ e. subst (λ (b : Bool). Leaves (cond b (fitted entry l) (refusing entry BadTable)) r exit) (sym e) f)
-      (λ e. let y : check.Passed ≡ check.Refused BadTable = q ∙ ap (λ (b : Bool). cond b check.Passed (check.Refused BadTable)) e in let z : _≡_ {A = ℕ} 0 1 = cc in absurd (omega arith))
+lent-equal : {a b c d e f g h i j : List ℕ} (names : List ℕ) → a ≡ f → b ≡ g → c ≡ h → d ≡ i → e ≡ j
+    → _≡_ {A = Lent} (record { sorts = a; fields = b; variables = c; functions = d; members = e; names = names }) (record { sorts = f; fields = g; variables = h; functions = i; members = j; names = names })
+lent-equal names p q r s t = simp (p, q, r, s, t)
 
-  pub judged-refused : (why : Refusal) → check.Refused why ≡ checked l → Leaves (judged entry l) (Refused why) entry
-  unfolding judged
-  judged-refused why q =
-      by-test (passes l)
-      (λ e. let y : check.Refused why ≡ check.Passed = q ∙ ap (λ (b : Bool). cond b check.Passed (check.Refused BadTable)) e in let z : _≡_ {A = ℕ} 0 1 = cc in absurd (omega arith))
-      (λ e.
-      let y : check.Refused why ≡ check.Refused BadTable = q ∙ ap (λ (b : Bool). cond b check.Passed (check.Refused BadTable)) e in
-      let w : why ≡ BadTable = cc in
-      subst (λ (b : Bool). Leaves (cond b (fitted entry l) (refusing entry BadTable)) (Refused why) entry) (sym e)
-      (subst (λ (x : Refusal). Leaves (refusing entry BadTable) (Refused x) entry) (sym w) (leaves-refused entry BadTable)))
+front-part : (z : ℕ) (l : List ℕ) → take (z - 0) (drop 0 l) ≡ take z l
+front-part z l = let e : z - 0 ≡ z = omega arith in ap (λ (n : ℕ). take n l) e
 
-module _ (text a b c d e : List ℕ) (r : Parsed) (p : Parses text a b c d e r) (entry : Buffers) where
-  pub text-unparsed : r ≡ Other → Leaves (ofText entry text) (Refused BadTable) entry
-  unfolding ofText
-  text-unparsed q = by-parse (parse text) refl
+-- tables whose words stand at the fronts of the rooms
+record Spelt (text a b c d e : List ℕ) (i j k m n : ℕ) : Type 0 where
+  tables : Tables
+  is : parse text ≡ some tables
+  held : Held (laid tables text) a b c d e
+  size-1 : i ≡ length (laid tables text .sorts)
+  size-2 : j ≡ length (laid tables text .fields)
+  size-3 : k ≡ length (laid tables text .variables)
+  size-4 : m ≡ length (laid tables text .functions)
+  size-5 : n ≡ length (laid tables text .members)
+
+module _ (text a b c d e : List ℕ) (i j k m n : ℕ) (s : Spelt text a b c d e i j k m n) where
+  fits : (size : ℕ) (ws room : List ℕ) → size ≡ length ws → take (length ws) room ≡ ws → size ≤ length room
+  fits size ws room s h = omega (arith, s, ap length h, length-take (length ws) room)
+
+  spelt-within : Within i j k m n (record { sorts = a; fields = b; variables = c; functions = d; members = e })
+  spelt-within = record {
+    sorts = fits i (laid (s .tables) text .sorts) a (s .size-1) (s .held .sorts);
+    fields = fits j (laid (s .tables) text .fields) b (s .size-2) (s .held .fields);
+    variables = fits k (laid (s .tables) text .variables) c (s .size-3) (s .held .variables);
+    functions = fits m (laid (s .tables) text .functions) d (s .size-4) (s .held .functions);
+    members = fits n (laid (s .tables) text .members) e (s .size-5) (s .held .members);
+  }
+
+  abbrev front : Lent
+  front = record { sorts = take i a; fields = take j b; variables = take k c; functions = take m d; members = take n e; names = text }
+
+  spelt-fronts : front ≡ laid (s .tables) text
+  unfolding laid
+  spelt-fronts =
+      lent-equal text
+      (ap (λ (z : ℕ). take z a) (s .size-1) ∙ s .held .sorts)
+      (ap (λ (z : ℕ). take z b) (s .size-2) ∙ s .held .fields)
+      (ap (λ (z : ℕ). take z c) (s .size-3) ∙ s .held .variables)
+      (ap (λ (z : ℕ). take z d) (s .size-4) ∙ s .held .functions)
+      (ap (λ (z : ℕ). take z e) (s .size-5) ∙ s .held .members)
+
+module _ (text a b c d e : List ℕ) (r : Parsed) (p : Parses text a b c d e r) where
+  pub passing-unparsed : r ≡ Other → Passing text a b c d e Other
+  passing-unparsed q = record { answers = by-parse (parse text) refl; holds = p .holds }
     where
-      by-parse : (o : Option Tables) → parse text ≡ o → Leaves (ofParsed entry text (parse text)) (Refused BadTable) entry
-      by-parse none k = subst (λ (o : Option Tables). Leaves (ofParsed entry text o) (Refused BadTable) entry) (sym k) (leaves-refused entry BadTable)
+      by-parse : (o : Option Tables) → parse text ≡ o → Other ≡ passingTold text (parse text)
+      by-parse none k = ap (passingTold text) (sym k)
       by-parse (some t) k =
           let y : Other ≡ parsedTold text (some t) = sym q ∙ p .answers ∙ ap (parsedTold text) k in
           let z : _≡_ {A = ℕ} 0 1 = cc in
           absurd (omega arith)
 
   module _ (i j k m n : ℕ) (q : r ≡ Rows i j k m n) where
-    record Read-so : Type 0 where
-      tables : Tables
-      is : parse text ≡ some tables
-      held : Held (laid tables text) a b c d e
-      size-1 : i ≡ length (laid tables text .sorts)
-      size-2 : j ≡ length (laid tables text .fields)
-      size-3 : k ≡ length (laid tables text .variables)
-      size-4 : m ≡ length (laid tables text .functions)
-      size-5 : n ≡ length (laid tables text .members)
-
-    read-so : Read-so
-    read-so = by-parse (parse text) refl
+    parsed-spelt : Spelt text a b c d e i j k m n
+    parsed-spelt = by-parse (parse text) refl
       where
-        by-parse : (o : Option Tables) → parse text ≡ o → Read-so
+        by-parse : (o : Option Tables) → parse text ≡ o → Spelt text a b c d e i j k m n
         by-parse none s =
             let y : Rows i j k m n ≡ Other = sym q ∙ p .answers ∙ ap (parsedTold text) s in
             let z : _≡_ {A = ℕ} 0 1 = cc in
@@ -244,47 +259,152 @@ module _ (text a b c d e : List ℕ) (r : Parsed) (p : Parses text a b c d e r) 
             let y : Rows i j k m n ≡ parsedTold text (some t) = sym q ∙ p .answers ∙ ap (parsedTold text) s in
             record { tables = t; is = s; held = p .holds t s; size-1 = cc; size-2 = cc; size-3 = cc; size-4 = cc; size-5 = cc }
 
-    fits : (size : ℕ) (ws room : List ℕ) → size ≡ length ws → take (length ws) room ≡ ws → size ≤ length room
-    fits size ws room s h = omega (arith, s, ap length h, length-take (length ws) room)
+    parsed-within : Within i j k m n (record { sorts = a; fields = b; variables = c; functions = d; members = e })
+    parsed-within = spelt-within text a b c d e i j k m n parsed-spelt
 
     pub fits-1 : i ≤ length a
-    fits-1 = let s = read-so in fits i (laid (s .tables) text .sorts) a (s .size-1) (s .held .sorts)
+    fits-1 = parsed-within .sorts
 
     pub fits-2 : j ≤ length b
-    fits-2 = let s = read-so in fits j (laid (s .tables) text .fields) b (s .size-2) (s .held .fields)
+    fits-2 = parsed-within .fields
 
     pub fits-3 : k ≤ length c
-    fits-3 = let s = read-so in fits k (laid (s .tables) text .variables) c (s .size-3) (s .held .variables)
+    fits-3 = parsed-within .variables
 
     pub fits-4 : m ≤ length d
-    fits-4 = let s = read-so in fits m (laid (s .tables) text .functions) d (s .size-4) (s .held .functions)
+    fits-4 = parsed-within .functions
 
     pub fits-5 : n ≤ length e
-    fits-5 = let s = read-so in fits n (laid (s .tables) text .members) e (s .size-5) (s .held .members)
+    fits-5 = parsed-within .members
 
-    lent-equal : {a b c d e f g h i j : List ℕ} → a ≡ f → b ≡ g → c ≡ h → d ≡ i → e ≡ j
-        → _≡_ {A = Lent} (record { sorts = a; fields = b; variables = c; functions = d; members = e; names = text }) (record { sorts = f; fields = g; variables = h; functions = i; members = j; names = text })
-    lent-equal p q r s t = simp (p, q, r, s, t)
+    module _ (answer : check-type.Checked)
+        (h : answer ≡ checked (record { sorts = take (i - 0) (drop 0 a); fields = take (j - 0) (drop 0 b); variables = take (k - 0) (drop 0 c); functions = take (m - 0) (drop 0 d); members = take (n - 0) (drop 0 e); names = text })) where
+      told : answer ≡ checked (laid (parsed-spelt .tables) text)
+      told =
+          h ∙ ap (λ (l : Lent). checked l)
+          (lent-equal text (front-part i a) (front-part j b) (front-part k c) (front-part m d) (front-part n e) ∙ spelt-fronts text a b c d e i j k m n parsed-spelt)
 
-    zero-less : (z : ℕ) → z - 0 ≡ z
-    zero-less z = omega arith
+      passing-by : (t : Bool) → passes (laid (parsed-spelt .tables) text) ≡ t → passingTold text (parse text) ≡ cond t (sizes (laid (parsed-spelt .tables) text)) Other
+      passing-by t g = ap (passingTold text) (parsed-spelt .is) ∙ ap (λ (b : Bool). cond b (sizes (laid (parsed-spelt .tables) text)) Other) g
 
-    pub text-parsed : (answer : TablesRead) (exit : Buffers)
-        → Leaves (judged entry (record { sorts = take (i - 0) (drop 0 a); fields = take (j - 0) (drop 0 b); variables = take (k - 0) (drop 0 c); functions = take (m - 0) (drop 0 d); members = take (n - 0) (drop 0 e); names = text })) answer exit
-        → Leaves (ofText entry text) answer exit
-    unfolding ofText laid
-    text-parsed answer exit f =
-        let s = read-so in
-        let l = laid (s .tables) text in
-        subst (λ (o : Option Tables). Leaves (ofParsed entry text o) answer exit) (sym (s .is))
-        (subst (λ (x : Lent). Leaves (judged entry x) answer exit)
-        (lent-equal
-        (ap (λ (z : ℕ). take z a) (zero-less i ∙ s .size-1) ∙ s .held .sorts)
-        (ap (λ (z : ℕ). take z b) (zero-less j ∙ s .size-2) ∙ s .held .fields)
-        (ap (λ (z : ℕ). take z c) (zero-less k ∙ s .size-3) ∙ s .held .variables)
-        (ap (λ (z : ℕ). take z d) (zero-less m ∙ s .size-4) ∙ s .held .functions)
-        (ap (λ (z : ℕ). take z e) (zero-less n ∙ s .size-5) ∙ s .held .members))
-        f)
+      pub passing-passed : answer ≡ check.Passed → Passing text a b c d e (Rows i j k m n)
+      passing-passed g =
+          by-test (passes (laid (parsed-spelt .tables) text))
+          (λ f. record { answers = sym q ∙ p .answers ∙ ap (parsedTold text) (parsed-spelt .is) ∙ sym (passing-by true f); holds = p .holds })
+          (λ f.
+          let y : check.Passed ≡ check.Refused BadTable = sym g ∙ told ∙ ap (λ (b : Bool). cond b check.Passed (check.Refused BadTable)) f in
+          let z : _≡_ {A = ℕ} 0 1 = cc in
+          absurd (omega arith))
+
+      pub passing-refused : (why : Refusal) → answer ≡ check.Refused why → Passing text a b c d e Other
+      passing-refused why g =
+          by-test (passes (laid (parsed-spelt .tables) text))
+          (λ f.
+          let y : check.Refused why ≡ check.Passed = sym g ∙ told ∙ ap (λ (b : Bool). cond b check.Passed (check.Refused BadTable)) f in
+          let z : _≡_ {A = ℕ} 0 1 = cc in
+          absurd (omega arith))
+          (λ f. record { answers = sym (passing-by false f); holds = p .holds })
+
+module _ (text a b c d e : List ℕ) (r : Parsed) (p : Passing text a b c d e r) where
+  text-unparsed : (entry : Buffers) → r ≡ Other → ofText entry text ≡ refusing entry BadTable
+  unfolding ofText judged
+  text-unparsed entry q = by-parse (parse text) refl
+    where
+      by-parse : (o : Option Tables) → parse text ≡ o → ofParsed entry text (parse text) ≡ refusing entry BadTable
+      by-parse none k = ap (ofParsed entry text) k
+      by-parse (some t) k =
+          ap (ofParsed entry text) k
+          ∙ by-test (passes (laid t text))
+          (λ f.
+          let y : Other ≡ sizes (laid t text) = sym q ∙ p .answers ∙ ap (passingTold text) k ∙ ap (λ (b : Bool). cond b (sizes (laid t text)) Other) f in
+          let z : _≡_ {A = ℕ} 0 1 = cc in
+          absurd (omega arith))
+          (λ f. ap (λ (b : Bool). cond b (fitted entry (laid t text)) (refusing entry BadTable)) f)
+
+  module _ (i j k m n : ℕ) (q : r ≡ Rows i j k m n) where
+    record Passed-so : Type 0 where
+      so : Spelt text a b c d e i j k m n
+      passed : passes (laid (so .tables) text) ≡ true
+
+    passed-so : Passed-so
+    passed-so = by-parse (parse text) refl
+      where
+        by-parse : (o : Option Tables) → parse text ≡ o → Passed-so
+        by-parse none s =
+            let y : Rows i j k m n ≡ Other = sym q ∙ p .answers ∙ ap (passingTold text) s in
+            let z : _≡_ {A = ℕ} 0 1 = cc in
+            absurd (omega arith)
+        by-parse (some t) s =
+            by-test (passes (laid t text))
+            (λ f.
+            let y : Rows i j k m n ≡ sizes (laid t text) = sym q ∙ p .answers ∙ ap (passingTold text) s ∙ ap (λ (b : Bool). cond b (sizes (laid t text)) Other) f in
+            record { so = record { tables = t; is = s; held = p .holds t s; size-1 = cc; size-2 = cc; size-3 = cc; size-4 = cc; size-5 = cc }; passed = f })
+            (λ f.
+            let y : Rows i j k m n ≡ Other = sym q ∙ p .answers ∙ ap (passingTold text) s ∙ ap (λ (b : Bool). cond b (sizes (laid t text)) Other) f in
+            let z : _≡_ {A = ℕ} 0 1 = cc in
+            absurd (omega arith))
+
+    rows-within : Within i j k m n (record { sorts = a; fields = b; variables = c; functions = d; members = e })
+    rows-within = spelt-within text a b c d e i j k m n (passed-so .so)
+
+    text-parsed : (entry : Buffers) → ofText entry text ≡ fitted entry (record { sorts = take i a; fields = take j b; variables = take k c; functions = take m d; members = take n e; names = [] })
+    unfolding ofText judged fitted
+    text-parsed entry =
+        let s = passed-so in
+        ap (ofParsed entry text) (s .so .is)
+        ∙ ap (λ (b : Bool). cond b (fitted entry (laid (s .so .tables) text)) (refusing entry BadTable)) (s .passed)
+        ∙ ap (fitted entry) (sym (spelt-fronts text a b c d e i j k m n (s .so)))
+
+-- the answer that the rows tell, and what is stored by it
+module _ (text a b c d e : List ℕ) (r : Parsed) (p : Passing text a b c d e r) (entry : Buffers) (answer : TablesRead)
+    (h : answer ≡ answerTold (length (entry .sorts)) (length (entry .fields)) (length (entry .variables)) (length (entry .functions)) (length (entry .members)) r) where
+  abbrev rows : Buffers
+  rows = record { sorts = a; fields = b; variables = c; functions = d; members = e }
+
+  abbrev told-by : Parsed → TablesRead
+  told-by o = answerTold (length (entry .sorts)) (length (entry .fields)) (length (entry .variables)) (length (entry .functions)) (length (entry .members)) o
+
+  both-within : (i j k m n : ℕ) → answer ≡ Read i j k m n → Within i j k m n rows × Within i j k m n entry
+  both-within i j k m n q = by-rows r refl
+    where
+      by-rows : (o : Parsed) → r ≡ o → Within i j k m n rows × Within i j k m n entry
+      by-rows Other s =
+          let y : Refused BadTable ≡ Read i j k m n = ap told-by (sym s) ∙ sym h ∙ q in
+          let z : _≡_ {A = ℕ} 0 1 = cc in
+          absurd (omega arith)
+      by-rows (Rows f g x v w) s =
+          let u = read-within rows entry f g x v w i j k m n (ap told-by (sym s) ∙ sym h ∙ q) in
+          let m₁ : f ≡ i = cc in
+          let m₂ : g ≡ j = cc in
+          let m₃ : x ≡ k = cc in
+          let m₄ : v ≡ m = cc in
+          let m₅ : w ≡ n = cc in
+          (within-as m₁ m₂ m₃ m₄ m₅ rows (rows-within text a b c d e r p f g x v w s), within-as m₁ m₂ m₃ m₄ m₅ entry (u .1))
+        where
+          within-as : {f g x v w i j k m n : ℕ} → f ≡ i → g ≡ j → x ≡ k → v ≡ m → w ≡ n → (l : Buffers) → Within f g x v w l → Within i j k m n l
+          within-as p q s t u l w = record {
+            sorts = omega (arith, p, w .sorts);
+            fields = omega (arith, q, w .fields);
+            variables = omega (arith, s, w .variables);
+            functions = omega (arith, t, w .functions);
+            members = omega (arith, u, w .members);
+          }
+
+  pub text-storable : Storable answer rows entry
+  text-storable = record { held = λ i j k m n q. both-within i j k m n q .0; room = λ i j k m n q. both-within i j k m n q .1 }
+
+  text-left : ofText entry text ≡ leftBy rows entry answer
+  text-left = by-rows r refl
+    where
+      by-rows : (o : Parsed) → r ≡ o → ofText entry text ≡ leftBy rows entry answer
+      by-rows Other s = text-unparsed text a b c d e r p entry s ∙ ap (leftBy rows entry) (ap told-by (sym s) ∙ sym h)
+      by-rows (Rows i j k m n) s =
+          text-parsed text a b c d e r p i j k m n s entry
+          ∙ fitted-so rows entry i j k m n (rows-within text a b c d e r p i j k m n s)
+          ∙ ap (leftBy rows entry) (ap told-by (sym s) ∙ sym h)
+
+  pub text-reads : length text ≤ textLimit → (x : TablesRead) (exit : Buffers) → Stored answer rows entry x exit → Reads text entry x exit
+  text-reads k x exit s = reads-short text entry x exit k (subst (λ (l : Left). Leaves l x exit) (sym text-left) (record { answers = s .answers; holds = s .holds }))
 
 pub reads-long : (text : List ℕ) (entry : Buffers) → textLimit < length text → Reads text entry (Refused InputTooLong) entry
 reads-long text entry h = record {

@@ -5,4 +5,5 @@ pub mod Parse
 pub mod Told
 pub mod Parsing
 pub mod Reading
+pub mod Fronts
 pub mod Examples

@@ -1,5 +1,6 @@
 -- What the walk of all lines of document 01's tables' text leaves in its rooms: the words of the tables that it spells.
 use mathlib.Core.Path.{_≡_}
+use mathlib.Core.Bool.{cond}
 use mathlib.Core.List.{List}
 use mathlib.Core.Option.{Option, none, some}
 use Prim.Native.Nat.{ℕ, _*_, _≤_}
@@ -7,6 +8,7 @@ use lib.ListN.{length, take}
 use Rattle.tables.specs.Sort.{Tables}
 use Rattle.tables.specs.Layout.{Lent, stride}
 use Rattle.tables.specs.Rules.{rowLimit}
+use Rattle.tables.specs.Check.{passes}
 use Rattle.tables_text.specs.declared.parse.Parsed.{Parsed}
 use Rattle.tables_text.specs.declared.parse.Parsed.the-variants.{Rows, Other}
 use Rattle.tables_text.specs.Words.{laid}
@@ -37,4 +39,13 @@ parsedTold text (some t) = sizes (laid t text)
 
 pub record Parses (text a b c d e : List ℕ) (r : Parsed) : Type 0 where
   pub answers : r ≡ parsedTold text (parse text)
+  pub holds : (t : Tables) → parse text ≡ some t → Held (laid t text) a b c d e
+
+-- the same of rows that break no rule
+abbrev pub passingTold : List ℕ → Option Tables → Parsed
+passingTold text none = Other
+passingTold text (some t) = cond (passes (laid t text)) (sizes (laid t text)) Other
+
+pub record Passing (text a b c d e : List ℕ) (r : Parsed) : Type 0 where
+  pub answers : r ≡ passingTold text (parse text)
   pub holds : (t : Tables) → parse text ≡ some t → Held (laid t text) a b c d e

@@ -1,3 +1,5 @@
+use mathlib.Core.Path.{refl}
+use Rattle.tables_text.proofs.Readings.{passing-unparsed}
 use native.Mathlib.Omega.{arith}
 use Rattle.tables_text.specs.Line.{variableLine, functionLine, memberLine}
 use Rattle.tables_text.specs.Words.{variableWords, functionWords, memberWords}
@@ -8,13 +10,11 @@ use Rattle.tables_text.proofs.parse.parse_rows.Statement.{statement}
 use Rattle.tables_text.proofs.parse.parse_rows.Tie as tie
 use Rattle.tables_text.proofs.parse.parse_rows.Reads as reads
 use Rattle.tables_text.proofs.parse.parse_rows.Lts as lts
+use Rattle.tables_text.proofs.parse.judge.Reads as judge-reads
 use Rattle.tables_text.proofs.sorts.sort_rows.Reads as sort-rows-reads
 use Rattle.tables_text.proofs.walk.function_rows.Reads as function-rows-reads
 use Rattle.tables_text.proofs.walk.member_rows.Reads as member-rows-reads
 use Rattle.tables_text.proofs.walk.variable_rows.Reads as variable-rows-reads
-
-sort-rows-requires : tie.Need-sort-rows-requires
-sort-rows-requires c κs = (c .before .before .before .before .before .before .before .before .pre .sorts, c .before .before .before .before .before .before .before .before .pre .fields)
 
 variable-rows-requires : tie.Need-variable-rows-requires
 variable-rows-requires c κs = (within-1 _ _ _ _ (c .before .before .before .before .before .sort-rows .ensures), c .before .before .before .before .before .before .before .before .before .before .before .before .before .before .pre .variables)
@@ -26,28 +26,37 @@ member-rows-requires : tie.Need-member-rows-requires
 member-rows-requires c κs = (within-3 _ _ _ _ (c .before .before .before .before .before .before .before .before .before .before .before .before .before .sort-rows .ensures) _ _ (c .before .before .before .before .before .before .before .variable-rows .ensures) _ _ (c .before .before .before .function-rows .ensures), c .before .before .before .before .before .before .before .before .before .before .before .before .before .before .before .before .before .before .before .before .before .before .pre .members)
 
 returns : tie.Need-returns
-returns c = parses-other _ _ _ _ (c .before .before .before .before .before .before .before .before .before .before .before .before .before .before .before .before .before .before .sort-rows .ensures) _ _ (c .before .before .before .before .before .before .before .before .before .before .before .before .variable-rows .ensures) _ _ (c .before .before .before .before .before .before .before .before .function-rows .ensures) _ _ (c .before .before .before .before .member-rows .ensures) (c .if1 .taken)
+returns c = passing-unparsed (c .before .before .before .before .before .before .before .before .before .before .before .before .before .before .before .before .before .before .before .before .before .before .before .before .before .before .before .args .text .now) _ _ _ _ _ _ (parses-other _ _ _ _ (c .before .before .before .before .before .before .before .before .before .before .before .before .before .before .before .before .before .before .sort-rows .ensures) _ _ (c .before .before .before .before .before .before .before .before .before .before .before .before .variable-rows .ensures) _ _ (c .before .before .before .before .before .before .before .before .function-rows .ensures) _ _ (c .before .before .before .before .member-rows .ensures) (c .if1 .taken)) refl
 
-mul-t21 : tie.Need-mul-t21
-mul-t21 c = omega (arith, sorts-few _ _ _ _ (c .before .before .before .before .before .before .before .before .before .before .before .before .before .before .before .before .before .before .before .sort-rows .ensures))
-
-mul-t23 : tie.Need-mul-t23
-mul-t23 c = omega (arith, rows-few variableIn variableLine variableWords _ _ _ _ (c .before .before .before .before .before .before .before .before .before .before .before .before .before .before .variable-rows .ensures))
+mul-t22 : tie.Need-mul-t22
+mul-t22 c = omega (arith, sorts-few _ _ _ _ (c .before .before .before .before .before .before .before .before .before .before .before .before .before .before .before .before .before .before .before .sort-rows .ensures))
 
 mul-t24 : tie.Need-mul-t24
-mul-t24 c = omega (arith, rows-few functionIn functionLine functionWords _ _ _ _ (c .before .before .before .before .before .before .before .before .before .before .before .function-rows .ensures))
+mul-t24 c = omega (arith, rows-few variableIn variableLine variableWords _ _ _ _ (c .before .before .before .before .before .before .before .before .before .before .before .before .before .before .variable-rows .ensures))
 
 mul-t25 : tie.Need-mul-t25
-mul-t25 c = omega (arith, rows-few memberIn memberLine memberWords _ _ _ _ (c .before .before .before .before .before .before .before .before .member-rows .ensures))
+mul-t25 c = omega (arith, rows-few functionIn functionLine functionWords _ _ _ _ (c .before .before .before .before .before .before .before .before .before .before .before .function-rows .ensures))
+
+mul-t26 : tie.Need-mul-t26
+mul-t26 c = omega (arith, rows-few memberIn memberLine memberWords _ _ _ _ (c .before .before .before .before .before .before .before .before .member-rows .ensures))
+
+judge-requires : tie.Need-judge-requires
+judge-requires c κs = parses-rows _ _ _ _ (c .before .before .before .before .before .before .before .before .before .before .before .before .before .before .before .before .before .before .before .before .before .before .before .before .before .before .before .sort-rows .ensures) _ _ (c .before .before .before .before .before .before .before .before .before .before .before .before .before .before .before .before .before .before .before .before .before .variable-rows .ensures) _ _ (c .before .before .before .before .before .before .before .before .before .before .before .before .before .before .before .before .before .function-rows .ensures) _ _ (c .before .before .before .before .before .before .before .before .before .before .before .before .before .member-rows .ensures) (c .before .before .before .before .before .before .before .before .before .if1 .left)
+
+same-length-6 : tie.Need-same-length-6
+same-length-6 c = c .before .before .before .before .before .before .before .before .before .before .before .before .before .before .before .before .before .before .before .before .before .before .before .before .before .before .before .before .sort-rows .kept .1 .0
+
+same-length-7 : tie.Need-same-length-7
+same-length-7 c = c .before .before .before .before .before .before .before .before .before .before .before .before .before .before .before .before .before .before .before .before .before .before .before .before .before .before .before .before .sort-rows .kept .1 .1 .0
 
 returns-2 : tie.Need-returns-2
-returns-2 c = parses-rows _ _ _ _ (c .before .before .before .before .before .before .before .before .before .before .before .before .before .before .before .before .before .before .before .before .before .before .sort-rows .ensures) _ _ (c .before .before .before .before .before .before .before .before .before .before .before .before .before .before .before .before .variable-rows .ensures) _ _ (c .before .before .before .before .before .before .before .before .before .before .before .before .function-rows .ensures) _ _ (c .before .before .before .before .before .before .before .before .member-rows .ensures) (c .before .before .before .before .if1 .left)
+returns-2 c = c .judge .ensures
 
 pub parse-rows-spec : {M : Type 1} → statement M
 parse-rows-spec =
     tie.close
     (tie.spec
-    sort-rows-requires
+    (λ c κs. search needs)
     variable-rows-requires
     function-rows-requires
     member-rows-requires
@@ -57,12 +66,13 @@ parse-rows-spec =
     (λ c. search needs)
     (λ c. search needs)
     returns
-    mul-t21
-    mul-t23
+    mul-t22
     mul-t24
     mul-t25
-    (λ c. search needs)
-    (λ c. search needs)
+    mul-t26
+    judge-requires
+    same-length-6
+    same-length-7
     (λ c. search needs)
     (λ c. search needs)
     (λ c. search needs)
