@@ -37,9 +37,9 @@ Small (refuses why) = detailOf why < 2 ^ 56
 pub decoded-small : (s d : List ℕ) → Bytes s → Small (written (decoded s d .answer))
 unfolding decoded writing
 decoded-small s d bytes =
-    by-order 16777216 (length s) (λ h. rw (lt-leb (length s) 16777216 h) (omega arith))
+    by-order inputLimit (length s) (λ h. rw (lt-leb (length s) inputLimit h) (omega arith))
     (λ h.
-    rw (le-leb (length s) 16777216 h)
+    rw (le-leb (length s) inputLimit h)
     (by-test (anySurrogate (points s)) (λ t. rw t (omega arith))
     (λ t.
     rw t
