@@ -177,6 +177,15 @@ uint64_t stazzumpi_list_model(const uint64_t *sorts, size_t sorts_length, const 
                               size_t names_length, const uint64_t *nodes, size_t nodes_length, const uint8_t *text,
                               size_t text_length, uint8_t *out, size_t out_length, uint64_t *told, size_t told_length);
 
+/* The listing of a reply to get-value: a list of pairs, a name and a value, each decoded expecting the sort that the table gives the
+ * name. A name that is not in the variable table is skipped, a later pair replaces an earlier one; no function is listed. All else is
+ * as above, with pairs for commands: 13 for a pair that is no list of two or whose first is no symbol, 16 for a value of another sort. */
+uint64_t stazzumpi_list_values(const uint64_t *sorts, size_t sorts_length, const uint64_t *fields, size_t fields_length,
+                               const uint64_t *variables, size_t variables_length, const uint64_t *functions,
+                               size_t functions_length, const uint64_t *members, size_t members_length, const uint8_t *names,
+                               size_t names_length, const uint64_t *nodes, size_t nodes_length, const uint8_t *text,
+                               size_t text_length, uint8_t *out, size_t out_length, uint64_t *told, size_t told_length);
+
 /* The lines of a script, each with its line feed at the front of `out`.
  * Each tells 1 word: the length of the line. Refusals: 26 (told); 9 for an input of more than 16,777,216 elements; 25 for ends that
  * fall or pass their string, or that are odd in count where they are pairs; 26 for `out`.

@@ -1,4 +1,4 @@
-"""Document 01's model walk and listing read a second time, in Python, from its words alone.
+"""Document 01's model walk and listing, and document 02's R-1, read a second time, in Python, from their words alone.
 
 Beside document 01's rules it knows, one by one, the crate's ways that docs/DIFFERENCES.md lists: with all of
 them taken up its answers have to be the crate's, with none of them they are document 01's. A walk notes which of them it meets.
@@ -350,12 +350,24 @@ class Walk:
         else:
             raise Refused(13)
 
-    def run(self, root):
-        """All commands in order."""
+    def pair(self, node):
+        """A pair of a reply to get-value: the value expects the table's sort, an unknown name is skipped unread."""
+        if not isinstance(node, list) or len(node) != 2 or not is_symbol(node[0]):
+            raise Refused(13)
+        name = node[0][1]
+        if name in self.tables.vars:
+            sort = self.tables.sorts[self.tables.vars[name]]
+            value = self.value(node[1], sort)
+            if value.sort != sort:
+                raise Refused(16)
+            self.vars[name] = value
+
+    def run(self, root, values=False):
+        """All commands in order, or all pairs."""
         if not isinstance(root, list):
             raise Refused(13)
         for node in root:
-            self.command(node)
+            (self.pair if values else self.command)(node)
             self.done += 1
 
     @staticmethod
@@ -380,10 +392,10 @@ class Walk:
         return "\n".join(lines) + "\n"
 
 
-def walked(tables, arena, ways=frozenset()):
-    """The walk over a model that has been read."""
+def walked(tables, arena, ways=frozenset(), values=False):
+    """The walk over a model, or over a reply to get-value, that has been read."""
     walk = Walk(tables, ways)
-    walk.run(tree(arena))
+    walk.run(tree(arena), values)
     return walk
 
 

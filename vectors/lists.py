@@ -44,7 +44,7 @@ def read_listings():
     found = []
     for place, (case, printed) in enumerate(zip(rows(cases), answers.read_bytes().split(b"\n\n")), 1):
         answer = told(printed)
-        if answer not in [f"refused={number}" for number in OURS]:
+        if answer not in [f"refused={number}" for number in OURS] and case[0] not in "VW":
             found.append((asked(case), differ.get(str(place), answer)))
     return [case for case, _ in found], [answer for _, answer in found]
 

@@ -13,12 +13,14 @@ HERE = Path(__file__).resolve().parent
 sys.path.append(str(HERE.parent / "oracle"))
 import walk  # noqa: E402  (the path above has to come first)
 from asking import answers, with_room  # noqa: E402
-from cases import ends, known, leaves, levels, limits, lines, listed, listings, readings, refusals, repeats, rooms, strings, tables, trees  # noqa: E402
+from cases import ends, known, leaves, levels, limits, lines, listed, listings, models, readings, refusals, repeats, rooms, strings, tables, trees, values  # noqa: E402
 from lists import DIFFER, OURS, asked, files, told  # noqa: E402
 
 SEED = 20261115
 # What `modellist` reads of a reply: one byte more than it may have.
 MOST_READ = 65_537
+# How many random replies to get-value are drawn, and how many are kept for each answer.
+VALUES_DRAWN, VALUES_KEPT = 4_000, 20
 # Those that are too large for the rooms of `modellist`.
 LARGER = ("fun-rec-200",)
 
@@ -80,6 +82,27 @@ def in_rooms(letter, pairs):
     return [listed.case(letter, listings.tables(short).encode(), model.encode()) for short, model in pairs]
 
 
+def value_cases(rng):
+    """Random replies to get-value, a few for each answer."""
+    kept = {}
+    for _ in range(VALUES_DRAWN):
+        drawn, told = values.random_case(rng)
+        case = listed.case("V", drawn.text(), models.written(told))
+        some = kept.setdefault(kind_printed(listed.printed(case)), [])
+        if len(some) < VALUES_KEPT:
+            some.append(case)
+    return [case for answer in sorted(kept) for case in kept[answer]]
+
+
+def kind_printed(printed):
+    return printed.split(b"\n")[0] if printed.startswith(b"refused=") else b"listing"
+
+
+def real_values():
+    """The real replies to get-value, over the tables of their folder."""
+    return [listed.case("V", (path.parent / "tables.txt").read_bytes(), path.read_bytes()) for path in real("value")]
+
+
 def listing_ranges(rng):
     edges = listings.edge_cases()
     if parted(edges)[1]:
@@ -106,6 +129,9 @@ def listing_ranges(rng):
         ("document 01's rooms, just full and short by one", [listed.case(*parts) for parts in limits.rooms()]),
         ("the longest reply, with as much text as there is room for, and one that is longer by a byte",
          [listed.case(*parts) for parts in limits.lengths()]),
+        ("replies to get-value: the edges of document 02's R-1", in_rooms("V", values.pairs())),
+        ("random tables and replies to get-value, a few for each answer, by the seed", value_cases(random.Random(f"{SEED} values"))),
+        ("the real replies to get-value", real_values()),
     ]
 
 
@@ -118,7 +144,7 @@ def put_listings(rng):
     written(put_in, cases)
     put_out.write_bytes(b"".join(found))
     ours = [f"refused={number}" for number in OURS]
-    places = [place for place, printed in enumerate(found) if told(printed) not in ours]
+    places = [place for place, printed in enumerate(found) if told(printed) not in ours and cases[place][0] not in listed.VALUES]
     differ = []
     for place, got in zip(places, answers("listings", [asked(cases[place]) for place in places])):
         if got != told(found[place]):

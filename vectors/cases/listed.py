@@ -2,7 +2,8 @@
 
 A case is a letter, tables.txt and the reply in hexadecimal, `-` for an empty one, a space between two: `M` has the rooms of
 program `modellist`, `L` larger ones; of these `N` lacks the nodes, `T` the text, `S` the bracket stack, `O` the output; `A` is the
-walk over no tables, no words and no text. The answer ends with an empty line.
+walk over no tables, no words and no text. `V` and `W` are replies to get-value, in the rooms of `M` and `L`. The answer ends with an
+empty line.
 """
 
 from typing import NamedTuple
@@ -24,6 +25,7 @@ class Rooms(NamedTuple):
 LARGER = Rooms(16_384, 65_536, 65_536, 8_192)
 ROOMS = {"M": Rooms(2_048, 65_536, 65_536, 4_096), "L": LARGER, "N": LARGER._replace(nodes=0), "T": LARGER._replace(text=0),
          "S": LARGER._replace(depth=0), "O": LARGER._replace(out=0)}
+VALUES = {"V": "M", "W": "L"}
 NO_WORDS = "A"
 
 
@@ -42,7 +44,7 @@ def fitting(number, need, room):
         raise reading.Refused(number, need)
 
 
-def walked(rooms, tables, reply):
+def walked(rooms, tables, reply, values=False):
     """The walk, after everything that is refused before it."""
     if max(len(tables), len(reply)) > LONGEST:
         raise reading.Refused(9)
@@ -54,7 +56,7 @@ def walked(rooms, tables, reply):
     fitting(10, len(arena.nodes), rooms.nodes)
     fitting(11, len(arena.text), rooms.text)
     fitting(12, arena.depth, rooms.depth)
-    return walk.walked(tables, arena)
+    return walk.walked(tables, arena, values=values)
 
 
 def printed(line):
@@ -63,8 +65,8 @@ def printed(line):
     try:
         if letter == NO_WORDS:
             raise reading.Refused(27)
-        rooms = ROOMS[letter]
-        found = walked(rooms, tables, reply)
+        rooms = ROOMS[VALUES.get(letter, letter)]
+        found = walked(rooms, tables, reply, letter in VALUES)
         listing, need = (found.listing(kept).encode() for kept in (False, True))
         fitting(26, len(need), rooms.out)
     except reading.Refused as refusal:

@@ -3,6 +3,7 @@
 use mathlib.Core.Path.{_≡_, refl, sym, ap, _∙_, subst}
 use mathlib.Core.Bool.{true, false}
 use mathlib.Core.List.{List}
+use mathlib.Core.Option.{Option}
 use Prim.Native.Nat.{ℕ, _+_}
 use native.Mathlib.Omega.{arith}
 use Rattle.ground.specs.Bytes.{bytes}
@@ -17,24 +18,14 @@ use Rattle.shapes.proofs.Stood.{first-of, others-of, said-so}
 use Rattle.shapes.proofs.Seen.{not-word, by-word, not-list, by-list}
 use Rattle.shapes.proofs.Arms.{not-symbol, not-app}
 use Rattle.commands.specs.declared.command.CommandFound.{CommandFound}
+use Rattle.commands.specs.declared.pair.PairFound.{PairFound}
+use Rattle.commands.specs.Pair.{Pair, pair}
+use Rattle.commands.specs.PairShows.{PairShows, PairAt}
 use Rattle.commands.specs.Command.{Command, misshapen, argument, arguments, parts, command}
-use Rattle.commands.specs.CommandShows.{CommandShows, CommandAt, FiveAt, ArgumentsAt, ArgumentAt, LastAt, fifth}
+use Rattle.commands.specs.CommandShows.{CommandShows, CommandAt, FiveAt, ArgumentsAt, LastAt, fifth}
 
 abbrev Wrong : CommandFound
 Wrong = CommandFound.Refused UnexpectedModel
-
--- (ARG SORT)
-module _ (ws : List ℕ) (size offset first sort body : ℕ) (w : Word) (h : WordAt ws first w) where
-  pub argument-none : w ≡ Word.NoSymbol → ArgumentAt ws size offset first sort body Wrong
-  argument-none e ts name x a t b r s p q = (not-symbol x _ _ (not-word ws first w h ts e x (first-of ws ts x (cons a nil) first 2 s)), refl)
-
-  pub argument-word : (long off : ℕ) → w ≡ Word.Symbol long off → (second : ℕ) → second ≡ afterAt ws first →
-      ArgumentAt ws size offset first sort body (CommandFound.Function size offset long off second sort body)
-  argument-word long off e second here ts name x a t b r s p q =
-      let o = first-of ws ts a nil second 1 (others-of ws ts x (cons a nil) first 2 s second 1 here refl) in
-      by-word ws first w h ts long off e
-      (λ (y : Tree). CommandShows ws ts (CommandFound.Function size offset long off second sort body) (argument name (cons y (cons a nil)) t b))
-      (λ f g. (name, f, a, t, b, refl, r, g, o, p, q)) x (first-of ws ts x (cons a nil) first 2 s)
 
 -- () or ((ARG SORT))
 module _ (ws : List ℕ) (size offset first many sort body : ℕ) where
@@ -56,32 +47,17 @@ module _ (ws : List ℕ) (size offset first many sort body : ℕ) where
     by-one f k ts name (cons a nil) t b r s p q = k ts name a t b r (first-of ws ts a nil first many s) p q
     by-one f k ts name (cons a (cons c us)) t b r s p q = let c = s .many-are in absurd (omega arith)
 
-    module _ (l : Parts) (h : PartsAt ws first l) where
-      pub arguments-atom : l ≡ Parts.NoList → ArgumentsAt ws size offset first many sort body Wrong
-      arguments-atom e = by-one Wrong (λ ts name a t b r s p q. (not-app a _ _ (not-list ws first l h e ts a s), refl))
+    module _ (p : PairFound) (h : PairAt ws first p) where
+      pub arguments-none-such : p ≡ PairFound.NoPair → ArgumentsAt ws size offset first many sort body Wrong
+      arguments-none-such e = by-one Wrong (λ ts name a t b r s u v. (ap (λ (x : Option Pair). argument name x t b) (subst (λ (x : PairFound). PairShows ws ts x (pair a)) e (h ts a s)), refl))
 
-      module _ (inside : ℕ) (e : l ≡ Parts.Children inside) where
-        not-two : (ts name : List ℕ) (us : Trees) (t b : Tree) → (inside ≡ 2 → ⊥) → StandingAll us ws ts (first + 1) inside → argument name us t b ≡ misshapen
-        not-two ts name nil t b z s = refl
-        not-two ts name (cons x nil) t b z s = refl
-        not-two ts name (cons x (cons a nil)) t b z s = absurd (z (s .many-are))
-        not-two ts name (cons x (cons a (cons u us))) t b z s = refl
-
-        pub arguments-parts : (inside ≡ 2 → ⊥) → ArgumentsAt ws size offset first many sort body Wrong
-        arguments-parts z =
-            by-one Wrong
-            (λ ts name a t b r s p q. (by-list ws first l h inside e ts (λ (x : Tree). arguments name (cons x nil) t b ≡ misshapen) (λ us g. not-two ts name us t b z g) a s, refl))
-
-        pub arguments-argument : inside ≡ 2 → (f : CommandFound) → ArgumentAt ws size offset (first + 1) sort body f → ArgumentsAt ws size offset first many sort body f
-        arguments-argument z f k =
-            by-one f
-            (λ ts name a t b r s p q. by-list ws first l h inside e ts (λ (x : Tree). CommandShows ws ts f (arguments name (cons x nil) t b)) (λ us g. two ts name us t b r g p q) a s)
-          where
-            two : (ts name : List ℕ) (us : Trees) (t b : Tree) → Reads name ts offset size → StandingAll us ws ts (first + 1) inside → Standing t ws ts sort → Standing b ws ts body → CommandShows ws ts f (argument name us t b)
-            two ts name nil t b r s p q = let c = s .many-are in absurd (omega arith)
-            two ts name (cons x nil) t b r s p q = let c = s .many-are in absurd (omega arith)
-            two ts name (cons x (cons a nil)) t b r s p q = k ts name x a t b r (subst (λ (n : ℕ). StandingAll (cons x (cons a nil)) ws ts (first + 1) n) z s) p q
-            two ts name (cons x (cons a (cons u us))) t b r s p q = let c = s .many-are in absurd (omega arith)
+      pub arguments-pair : (argSize argOffset second : ℕ) → p ≡ PairFound.Pair argSize argOffset second →
+          ArgumentsAt ws size offset first many sort body (CommandFound.Function size offset argSize argOffset second sort body)
+      arguments-pair argSize argOffset second e =
+          by-one (CommandFound.Function size offset argSize argOffset second sort body)
+          (λ ts name a t b r s u v.
+          let g = subst (λ (x : PairFound). PairShows ws ts x (pair a)) e (h ts a s) in
+          (name, g .0, g .1, t, b, ap (λ (x : Option Pair). argument name x t b) (g .2), r, g .3, g .4, u, v))
 
 -- the five parts
 module _ (ws ts : List ℕ) (first : ℕ) where

@@ -1,3 +1,4 @@
+pub mod Pairs
 pub mod Commands
 pub mod Links
 pub mod Tests

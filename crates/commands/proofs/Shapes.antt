@@ -1,9 +1,9 @@
--- What the shapes of a command, of a test and of a body say of the trees.
+-- What the shapes of a pair, of a command, of a test and of a body say of the trees.
 -- Assumes nothing.
 use mathlib.Core.Path.{_≡_, sym, ap, ap₂, subst}
 use mathlib.Core.Bool.{true, true≢false}
 use mathlib.Core.List.{List}
-use mathlib.Core.Option.{some}
+use mathlib.Core.Option.{Option, none, some}
 use Prim.Native.Nat.{ℕ}
 use lib.ListN.{getD}
 use Rattle.ground.specs.Bytes.{bytes}
@@ -12,7 +12,30 @@ use Rattle.arena.specs.Tree.{Tree, Trees, bitVec, numeral, string, symbol, app,
 use Rattle.arena.proofs.Texts.{same-equal}
 use Rattle.tables.proofs.Places.{none-some, some-one}
 use Rattle.shapes.specs.Shape.{is}
+use Rattle.commands.specs.Pair.{Pair, pairOf, two, pair}
 use Rattle.commands.specs.Command.{Command, variable, function, misshapen, argument, arguments, parts, command, Chain, default, arm, link, chain, chains, headedOr, tests, isArgument, operand, key}
+
+-- (NAME VALUE), (ARG SORT)
+pub data PairView : Tree → Option Pair → Type 0 where
+  p-pair : {name : List ℕ} {t : Tree} → PairView (app (cons (symbol name) (cons t nil))) (some (pairOf name t))
+  p-none : {t : Tree} → PairView t none
+
+two-view : (us : Trees) → PairView (app us) (two us)
+two-view nil = p-none
+two-view (cons a nil) = p-none
+two-view (cons (bitVec w n) (cons t nil)) = p-none
+two-view (cons (numeral n) (cons t nil)) = p-none
+two-view (cons (string s) (cons t nil)) = p-none
+two-view (cons (symbol x) (cons t nil)) = p-pair
+two-view (cons (app us) (cons t nil)) = p-none
+two-view (cons a (cons t (cons u us))) = p-none
+
+pub pair-view : (t : Tree) → PairView t (pair t)
+pair-view (bitVec w n) = p-none
+pair-view (numeral n) = p-none
+pair-view (string s) = p-none
+pair-view (symbol s) = p-none
+pair-view (app us) = two-view us
 
 -- (define-fun NAME PARAMETERS SORT BODY)
 abbrev pub define : List ℕ → Trees → Tree → Tree → Tree
@@ -25,23 +48,13 @@ pub data CommandView : Tree → Command → Type 0 where
   c-misshapen : {t : Tree} → CommandView t misshapen
 
 module _ (name : List ℕ) (sort body : Tree) where
-  argument-view : (us : Trees) → CommandView (define name (cons (app us) nil) sort body) (argument name us sort body)
-  argument-view nil = c-misshapen
-  argument-view (cons a nil) = c-misshapen
-  argument-view (cons (bitVec w n) (cons t nil)) = c-misshapen
-  argument-view (cons (numeral n) (cons t nil)) = c-misshapen
-  argument-view (cons (string s) (cons t nil)) = c-misshapen
-  argument-view (cons (symbol x) (cons t nil)) = c-function
-  argument-view (cons (app us) (cons t nil)) = c-misshapen
-  argument-view (cons a (cons t (cons u us))) = c-misshapen
+  argument-view : (a : Tree) (p : Option Pair) → PairView a p → CommandView (define name (cons a nil) sort body) (argument name p sort body)
+  argument-view _ _ p-pair = c-function
+  argument-view _ _ p-none = c-misshapen
 
   arguments-view : (us : Trees) → CommandView (define name us sort body) (arguments name us sort body)
   arguments-view nil = c-variable
-  arguments-view (cons (bitVec w n) nil) = c-misshapen
-  arguments-view (cons (numeral n) nil) = c-misshapen
-  arguments-view (cons (string s) nil) = c-misshapen
-  arguments-view (cons (symbol s) nil) = c-misshapen
-  arguments-view (cons (app us) nil) = argument-view us
+  arguments-view (cons a nil) = argument-view a (pair a) (pair-view a)
   arguments-view (cons a (cons b us)) = c-misshapen
 
 five-view : (a b c sort body : Tree) → CommandView (app (cons a (cons b (cons c (cons sort (cons body nil)))))) (parts (cons a (cons b (cons c (cons sort (cons body nil))))))

@@ -7,6 +7,7 @@ use lib.ListN.{getD}
 use Rattle.arena.specs.Text.{sameText}
 use Rattle.arena.specs.Tree.{Tree, Trees, bitVec, numeral, string, symbol, app, nil, cons}
 use Rattle.shapes.specs.Shape.{is, onSymbol, onApp}
+use Rattle.commands.specs.Pair.{Pair, pair}
 
 -- (define-fun NAME () SORT VALUE), (define-fun NAME ((ARG SORT)) SORT BODY), or any other shape
 pub data Command : Type 0 where
@@ -15,16 +16,14 @@ pub data Command : Type 0 where
   misshapen : Command
 
 -- (ARG SORT)
-abbrev pub argument : List ℕ → Trees → Tree → Tree → Command
-argument name nil sort body = misshapen
-argument name (cons a nil) sort body = misshapen
-argument name (cons a (cons t nil)) sort body = onSymbol a misshapen (λ x. function name x t sort body)
-argument name (cons a (cons t (cons u us))) sort body = misshapen
+abbrev pub argument : List ℕ → Option Pair → Tree → Tree → Command
+argument name none sort body = misshapen
+argument name (some p) sort body = function name (p .name) (p .second) sort body
 
 -- () or ((ARG SORT))
 abbrev pub arguments : List ℕ → Trees → Tree → Tree → Command
 arguments name nil sort body = variable name sort body
-arguments name (cons a nil) sort body = onApp a misshapen (λ us. argument name us sort body)
+arguments name (cons a nil) sort body = argument name (pair a) sort body
 arguments name (cons a (cons b us)) sort body = misshapen
 
 abbrev pub parts : Trees → Command

@@ -7,7 +7,7 @@ use Rattle.arena.specs.Node.{afterAt}
 use Rattle.arena.specs.Tree.{Tree, Trees, nil, cons}
 use Rattle.shapes.specs.Shows.{Standing, StandingAll, Reads}
 use Rattle.commands.specs.declared.command.CommandFound.{CommandFound}
-use Rattle.commands.specs.Command.{Command, variable, function, misshapen, argument, arguments, parts, command}
+use Rattle.commands.specs.Command.{Command, variable, function, misshapen, arguments, parts, command}
 
 abbrev pub CommandShows : List ℕ → List ℕ → CommandFound → Command → Type 0
 CommandShows ws ts (CommandFound.Variable size offset sort value) s =
@@ -30,12 +30,6 @@ abbrev pub ArgumentsAt : List ℕ → ℕ → ℕ → ℕ → ℕ → ℕ → �
 ArgumentsAt ws size offset first many sort body r =
     (ts name : List ℕ) (us : Trees) (t b : Tree) → Reads name ts offset size → StandingAll us ws ts first many → Standing t ws ts sort → Standing b ws ts body →
     CommandShows ws ts r (arguments name us t b)
-
--- the same where the two parts of its one argument do
-abbrev pub ArgumentAt : List ℕ → ℕ → ℕ → ℕ → ℕ → ℕ → CommandFound → Type 0
-ArgumentAt ws size offset first sort body r =
-    (ts name : List ℕ) (x a t b : Tree) → Reads name ts offset size → StandingAll (cons x (cons a nil)) ws ts first 2 → Standing t ws ts sort → Standing b ws ts body →
-    CommandShows ws ts r (argument name (cons x (cons a nil)) t b)
 
 -- the node of its last part: a variable's value, a function's body
 abbrev pub LastAt : ℕ → CommandFound → Type 0

@@ -1,3 +1,5 @@
+pub mod Pair
+pub mod PairShows
 pub mod Command
 pub mod CommandShows
 pub mod LinkShows

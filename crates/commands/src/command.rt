@@ -1,4 +1,6 @@
 // A command's parts are taken out one after the other; the first that is not there refuses the command.
+use crate::pair::PairFound;
+use crate::pair::pair_at;
 use arena::after;
 use arena::text_is;
 use refusals::Refusal;
@@ -7,7 +9,7 @@ use shapes::Word;
 use shapes::list_at;
 use shapes::symbol_at;
 ghost use Prim.Native.Nat.{_+_};
-ghost use Rattle.commands.specs.CommandShows.{CommandAt, FiveAt, ArgumentsAt, ArgumentAt, LastAt, fifth};
+ghost use Rattle.commands.specs.CommandShows.{CommandAt, FiveAt, ArgumentsAt, LastAt, fifth};
 
 // A command, with its names' texts and the nodes of its other parts.
 pub enum CommandFound {
@@ -27,38 +29,6 @@ pub enum CommandFound {
         body: usize,
     },
     Refused(Refusal),
-}
-
-// (ARG SORT), its two parts from a node on; the name's text, the sort and the body are known.
-fn argument(
-    nodes: &[u64],
-    size: u64,
-    offset: u64,
-    first: usize,
-    sort: usize,
-    body: usize,
-) -> CommandFound
-    ensures { λ r. ⌜ ArgumentAt (now (nodes .entry)) size offset first sort body r ⌝ }
-    ensures { λ r. ⌜ LastAt body r ⌝ }
-{
-    let word = symbol_at(nodes, first);
-    let Word::Symbol {
-        size: arg_length,
-        offset: arg_offset,
-    } = word
-    else {
-        return CommandFound::Refused(Refusal::UnexpectedModel);
-    };
-    let arg_sort = after(nodes, first);
-    CommandFound::Function {
-        size,
-        offset,
-        arg_length,
-        arg_offset,
-        arg_sort,
-        sort,
-        body,
-    }
 }
 
 // () or ((ARG SORT)), so many parts from a node on.
@@ -85,14 +55,24 @@ fn arguments(
     if count != 1 {
         return CommandFound::Refused(Refusal::UnexpectedModel);
     }
-    let list = list_at(nodes, first);
-    let Parts::Children(parts) = list else {
+    let pair = pair_at(nodes, first);
+    let PairFound::Pair {
+        size: arg_length,
+        offset: arg_offset,
+        second: arg_sort,
+    } = pair
+    else {
         return CommandFound::Refused(Refusal::UnexpectedModel);
     };
-    if parts != 2 {
-        return CommandFound::Refused(Refusal::UnexpectedModel);
+    CommandFound::Function {
+        size,
+        offset,
+        arg_length,
+        arg_offset,
+        arg_sort,
+        sort,
+        body,
     }
-    argument(nodes, size, offset, first + 1, sort, body)
 }
 
 // The five parts of a command from a node on.

@@ -1,5 +1,6 @@
 //! `ours`: a case of `listings` goes to our library, in rooms that are just enough, larger and too small. Its answer comes out as that of
-//! `listings` does, with the listing's need or the refusal's detail behind it. Every element that was lent is looked at after every call.
+//! `listings` does, with the listing's need or the refusal's detail behind it; behind `V` and a space the reply is one to get-value. Every
+//! element that was lent is looked at after every call.
 
 use super::compare::{arena, same, short, OUT_ROOM};
 use super::lent::Marked;
@@ -17,8 +18,9 @@ const MORE: usize = 29;
 /// The words of tables: sorts, fields, variables, functions, members.
 type Words = [Vec<u64>; 5];
 
-/// A case: the tables in hex, a space, the model in hex.
+/// A case: the tables in hex, a space, the reply in hex.
 pub fn answer(line: &str) -> Result<String, Fault> {
+    let (values, line) = line.strip_prefix("V ").map_or((false, line), |rest| (true, rest));
     let (tables, model) = line.split_once(' ').ok_or("tables and a model are asked for")?;
     let (tables, model) = (hex::read(tables)?, hex::read(model)?);
     let words = match read_tables(&tables)? {
@@ -29,7 +31,7 @@ pub fn answer(line: &str) -> Result<String, Fault> {
         Ok(tree) => tree,
         Err(code) => return Ok(refused(code)),
     };
-    let mut lent = Lent::default();
+    let mut lent = Lent { values, ..Lent::default() };
     lent.put(&words, &tables, &tree, 0);
     lent.lawful()?;
     let code = lent.ask("no room", 0, 2)?;
@@ -112,9 +114,10 @@ fn read_tables(text: &[u8]) -> Result<Result<Words, u64>, String> {
     Ok(Ok(words))
 }
 
-/// All that `list_model` is lent: what it reads stays as it is, and the front of what it may write is looked at by the caller.
+/// All that `list_model` or `list_values` is lent: what it reads stays as it is, and the front of what it may write is looked at by the caller.
 #[derive(Default)]
 struct Lent {
+    values: bool,
     tables: [Marked<u64>; 5],
     names: Marked<u8>,
     nodes: Marked<u64>,
@@ -143,7 +146,8 @@ impl Lent {
     /// The answer in rooms of these sizes. What was lent to be read has to be as it was, and on a refusal all else too.
     fn ask(&mut self, what: &str, out: usize, told: usize) -> Result<u64, String> {
         let tables = self.tables.each_ref().map(Marked::slice);
-        let code = ours::list_model(
+        let call = if self.values { ours::list_values } else { ours::list_model };
+        let code = call(
             tables,
             self.names.slice(),
             self.nodes.slice(),

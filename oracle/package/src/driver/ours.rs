@@ -39,6 +39,19 @@ extern "C" {
         told: &mut [u64],
     ) -> u64;
     #[allow(improper_ctypes)]
+    fn stazzumpi_list_values(
+        sorts: &[u64],
+        fields: &[u64],
+        variables: &[u64],
+        functions: &[u64],
+        members: &[u64],
+        names: &[u8],
+        nodes: &[u64],
+        text: &[u8],
+        out: &mut [u8],
+        told: &mut [u64],
+    ) -> u64;
+    #[allow(improper_ctypes)]
     fn stazzumpi_set_logic(logic: &[u8], out: &mut [u8], told: &mut [u64]) -> u64;
     #[allow(improper_ctypes)]
     fn stazzumpi_set_option(option: &[u8], value: &[u8], out: &mut [u8], told: &mut [u64]) -> u64;
@@ -96,6 +109,12 @@ pub fn find_variable(variables: &[u64], names: &[u8], name: &[u8], told: &mut [u
 pub fn list_model(lists: [&[u64]; 5], names: &[u8], nodes: &[u64], text: &[u8], out: &mut [u8], told: &mut [u64]) -> u64 {
     let [sorts, fields, variables, functions, members] = lists;
     unsafe { stazzumpi_list_model(sorts, fields, variables, functions, members, names, nodes, text, out, told) }
+}
+
+/// The same of a reply to get-value.
+pub fn list_values(lists: [&[u64]; 5], names: &[u8], nodes: &[u64], text: &[u8], out: &mut [u8], told: &mut [u64]) -> u64 {
+    let [sorts, fields, variables, functions, members] = lists;
+    unsafe { stazzumpi_list_values(sorts, fields, variables, functions, members, names, nodes, text, out, told) }
 }
 
 /// A list as the script's calls take it: the texts one after the other, and where each ends.

@@ -1,14 +1,11 @@
 use mathlib.Core.Path.{refl}
-use native.Mathlib.Omega.{arith}
-use Rattle.commands.proofs.Commands.{arguments-none, arguments-many, arguments-atom, arguments-parts, arguments-argument}
-use Rattle.shapes.proofs.Seen.{list-within}
+use Rattle.commands.proofs.Commands.{arguments-none, arguments-many, arguments-none-such, arguments-pair}
 use borrow.Author.Needs.{needs}
 use Rattle.commands.proofs.command.arguments.Statement.{statement}
 use Rattle.commands.proofs.command.arguments.Tie as tie
 use Rattle.commands.proofs.command.arguments.Reads as reads
 use Rattle.commands.proofs.command.arguments.Lts as lts
-use Rattle.commands.proofs.command.argument.Reads as argument-reads
-use Rattle.shapes.proofs.list_at.Reads as list-at-reads
+use Rattle.commands.proofs.pair.pair_at.Reads as pair-at-reads
 
 returns : tie.Need-returns
 returns c = (arguments-none (c .before .before .args .nodes .now) (c .before .before .args .size) (c .before .before .args .offset) (c .before .before .args .first) (c .before .before .args .count) (c .before .before .args .sort) (c .before .before .args .body) (c .if1 .taken), refl)
@@ -17,16 +14,10 @@ returns-2 : tie.Need-returns-2
 returns-2 c = let a = c .before .before .before .args in (arguments-many (a .nodes .now) (a .size) (a .offset) (a .first) (a .count) (a .sort) (a .body) (c .before .if1 .left) (c .if2 .taken), tt)
 
 returns-3 : tie.Need-returns-3
-returns-3 c = let a = c .before .before .before .before .before .before .args in (arguments-atom (a .nodes .now) (a .size) (a .offset) (a .first) (a .count) (a .sort) (a .body) (c .before .before .before .if2 .left) _ (c .before .before .list-at .ensures) (c .enum-told .given .1), tt)
+returns-3 c = let a = c .before .before .before .before .before .before .args in (arguments-none-such (a .nodes .now) (a .size) (a .offset) (a .first) (a .count) (a .sort) (a .body) (c .before .before .before .if2 .left) _ (c .before .before .pair-at .ensures .0) (c .enum-told .given .1), tt)
 
 returns-4 : tie.Need-returns-4
-returns-4 c = let a = c .before .before .before .before .before .before .before .before .args in (arguments-parts (a .nodes .now) (a .size) (a .offset) (a .first) (a .count) (a .sort) (a .body) (c .before .before .before .before .before .if2 .left) _ (c .before .before .before .before .list-at .ensures) _ (c .before .before .list .given .1) (c .if3 .taken), tt)
-
-add-argument : tie.Need-add-argument
-add-argument c = let a = c .before .before .before .before .before .before .before .before .args in record { fits = omega (arith, list-within (a .nodes .now) (a .first) _ (c .before .before .before .before .list-at .ensures) _ (c .before .before .list .given .1)) }
-
-returns-5 : tie.Need-returns-5
-returns-5 c = let a = c .before .before .before .before .before .before .before .before .before .args in (arguments-argument (a .nodes .now) (a .size) (a .offset) (a .first) (a .count) (a .sort) (a .body) (c .before .before .before .before .before .before .if2 .left) _ (c .before .before .before .before .before .list-at .ensures) _ (c .before .before .before .list .given .1) (c .before .if3 .left) (c .argument .result) (c .argument .ensures .0), c .argument .ensures .1)
+returns-4 c = let a = c .before .before .before .before .before .before .before .args in (arguments-pair (a .nodes .now) (a .size) (a .offset) (a .first) (a .count) (a .sort) (a .body) (c .before .before .before .before .if2 .left) _ (c .before .before .before .pair-at .ensures .0) _ _ _ (c .before .pair .given .1), refl)
 
 pub arguments-spec : {M : Type 1} → statement M
 arguments-spec =
@@ -38,7 +29,4 @@ arguments-spec =
     (λ c. search needs)
     (λ c. search needs)
     returns-3
-    returns-4
-    add-argument
-    (λ c κs. search needs)
-    returns-5)
+    returns-4)
