@@ -1,4 +1,4 @@
--- Document 01, "The model walk": what a model defines of the tables' names, or the refusal.
+-- Document 01, "The model walk", and document 02, R-1: what a model, or a reply to get-value, defines of the tables' names, or the refusal.
 use mathlib.Core.Bool.{Bool, true, false, cond}
 use mathlib.Core.List.{List, [], _∷_, _++_}
 use mathlib.Core.Option.{Option, none, some}
@@ -14,6 +14,8 @@ use Rattle.sorts.specs.Result.{Result, ok, refused, _>>=_, unless, found}
 use Rattle.sorts.specs.Sort.{readSort, levels}
 use Rattle.values.specs.Value.{Value, vBool}
 use Rattle.literals.specs.Literal.{read}
+use Rattle.commands.specs.declared.form.Form.{Form}
+use Rattle.commands.specs.Pair.{Pair, pair}
 use Rattle.commands.specs.Command.{Command, variable, function, misshapen, command, Chain, default, arm, chain, tests, key}
 
 -- where the argument is the key, the value
@@ -80,14 +82,17 @@ module _ (T : Tables) where
     abbrev pub readBody : Tree → Result Table
     readBody body = bodyBy body (tests body)
 
+  -- a value that expects a row's sort, 16 if its sort is another
+  abbrev pub valueAs : ℕ → Tree → Result Value
+  valueAs row t = read T levels (some row) t >>= λ l. unless (eqb (l .row) row) UnmatchedType (ok (l .value))
+
   -- a variable: sort, value, 16 if the value's sort differs, 16 if the table's differs
   abbrev pub variableValue : Variable → Tree → Tree → Result Value
   variableValue v sort t =
       readSort T levels sort >>= λ row.
-      read T levels (some row) t >>= λ l.
-      unless (eqb (l .row) row) UnmatchedType
-      (unless (eqb (v .sort) row) UnmatchedType
-      (ok (l .value)))
+      valueAs row t >>= λ x.
+      unless (eqb (v .sort) row) UnmatchedType
+      (ok x)
 
   -- a function: both sorts read, then the argument's, then the result's, against the table (16)
   abbrev pub functionTable : Function → List ℕ → Tree → Tree → Tree → Result Table
@@ -109,13 +114,32 @@ module _ (T : Tables) where
       onRow (T .functions) (functionRow T name) (λ i f. functionTable f x argSort sort body >>= λ table. ok (isFunction i table))
   readCommand misshapen = refused UnexpectedModel
 
-  unfoldable pub readCommands : Trees → Result (List Definition)
-  readCommands nil = ok []
-  readCommands (cons t us) = readCommand (command t) >>= λ ds. readCommands us >>= λ es. ok (ds ++ es)
+  -- R-1: a list of two whose first is a symbol, else 13; a name that is not in the variable table is skipped unread, and the value of one that is expects the table's sort
+  abbrev pub readPair : Option Pair → Result (List Definition)
+  readPair none = refused UnexpectedModel
+  readPair (some p) = onRow (T .variables) (variableRow T (p .name)) (λ i v. valueAs (v .sort) (p .second) >>= λ x. ok (isVariable i x))
 
-  -- the root is a list of commands
-  unfoldable pub readModel : Tree → Result (List Definition)
-  readModel t = onApp t (refused UnexpectedModel) (λ us. readCommands us)
+  -- a part of a reply, by the reply's form
+  abbrev pub readPart : Form → Tree → Result (List Definition)
+  readPart Form.Model t = readCommand (command t)
+  readPart Form.Values t = readPair (pair t)
+
+  module _ (form : Form) where
+    unfoldable pub readParts : Trees → Result (List Definition)
+    readParts nil = ok []
+    readParts (cons t us) = readPart form t >>= λ ds. readParts us >>= λ es. ok (ds ++ es)
+
+    -- the root is a list
+    unfoldable pub readReply : Tree → Result (List Definition)
+    readReply t = onApp t (refused UnexpectedModel) (λ us. readParts us)
+
+  -- of commands
+  abbrev pub readModel : Tree → Result (List Definition)
+  readModel = readReply Form.Model
+
+  -- R-1: of pairs
+  abbrev pub readValues : Tree → Result (List Definition)
+  readValues = readReply Form.Values
 
 -- the last one of a row
 abbrev pub orElse {ℓ} : {A : Type ℓ} → Option A → Option A → Option A
