@@ -1,4 +1,4 @@
--- Document 01, "The model walk" and "The listing": what checking a definition answers: how long its text is with repeats kept, or the refusal.
+-- Document 01, "The model walk" and "The listing", and document 02, R-1: what checking a definition answers: how long its text is with repeats kept, or the refusal.
 use mathlib.Core.Path.{_≡_}
 use mathlib.Core.Bool.{Bool, true, false, cond}
 use mathlib.Core.List.{List, [], _∷_, _++_}
@@ -21,7 +21,7 @@ use Rattle.literals.specs.Answer.{capped, answer}
 use Rattle.literals.specs.Plan.{Given}
 use Rattle.commands.specs.Command.{chain, key}
 use Rattle.sorts.specs.Sort.{levels}
-use Rattle.model.specs.Model.{Arm, armOf, Table, variableValue, functionTable, readBody, readChain, readTests}
+use Rattle.model.specs.Model.{Arm, armOf, Table, valueAs, variableValue, functionTable, readBody, readChain, readTests}
 use Rattle.model.specs.Listing.{line, armLines}
 use Rattle.definitions.specs.declared.measure.Measured.{Measured}
 
@@ -97,6 +97,12 @@ testAs (Measured.Need n) = Measured.Need (capped (n + 16))
 testAs (Measured.Refused r) = Measured.Refused r
 
 module _ (sorts fields members names ws ts : List ℕ) where
+  -- a value that has to be of a row's sort, by its node
+  abbrev pub ValueAt : ℕ → ℕ → Measured → Type 0
+  ValueAt row value r =
+      (l : Lent) → Given sorts fields members names l → (t : Tree) → Standing t ws ts value →
+      r ≡ measured valueSize (valueAs (tablesOf l) row t)
+
   -- a variable that the table gives a sort, by the nodes of its sort and value
   abbrev pub VariableAt : ℕ → ℕ → ℕ → Measured → Type 0
   VariableAt declared sort value r =

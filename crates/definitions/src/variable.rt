@@ -1,8 +1,6 @@
 // A variable's definition: its sort, its value, and both against the table.
 use crate::measure::Measured;
-use crate::measure::value_of;
-use literals::Expected;
-use literals::decode_literal;
+use crate::value::check_value;
 use refusals::Refusal;
 use sorts::LEVELS;
 use sorts::Sorted;
@@ -42,19 +40,7 @@ pub fn check_variable(
     let sorted = read_sort(sorts, names, nodes, text, sort, LEVELS);
     match sorted {
         Sorted::Row(row) => {
-            let expected = Expected::Row(row);
-            let literal = decode_literal(
-                sorts,
-                fields,
-                members,
-                names,
-                nodes,
-                text,
-                value,
-                expected,
-                LEVELS,
-            );
-            let measured = value_of(literal, row);
+            let measured = check_value(sorts, fields, members, names, nodes, text, row, value);
             declared_as(measured, row, declared)
         }
         Sorted::Refused(refusal) => Measured::Refused(refusal),
