@@ -13,6 +13,7 @@ use Rattle.tables.specs.Layout.{Lent, tablesOf}
 use Rattle.tables.specs.Rules.{lawful}
 use Rattle.shapes.specs.Shows.{StandingAll}
 use Rattle.sorts.specs.Result.{Result, ok, refused}
+use Rattle.commands.specs.declared.form.Form.{Form}
 use Rattle.walk.specs.declared.walk.Walked.{Walked}
 use Rattle.walk.specs.Placed.{Placed, placed}
 use Rattle.walk.specs.Last.{slots, stride, nodeWord, valueWord, needWord, wordAt, lastIn, Holds, Kept}
@@ -35,9 +36,9 @@ module _ (l : Lent) (ps : List Placed) (a b : List ℕ) (h : Kept l ps a) (k : K
   pub one-kept : a ≡ b
   one-kept = ext-getD 0 a b (h .full ∙ sym (k .full)) (λ i m. let e : i / stride * stride + i % stride ≡ i = omega arith in let f = h .full in sym (ap (λ (n : ℕ). getD a n 0) e) ∙ one-word (i / stride) (i % stride) (omega arith) (omega arith) ∙ ap (λ (n : ℕ). getD b n 0) e)
 
-pub one-walk : (l : Lent) (ws ts : List ℕ) (first many : ℕ) (entry a b : List ℕ) (r s : Walked) → Walks l ws ts first many entry a r → Walks l ws ts first many entry b s →
+pub one-walk : (form : Form) (l : Lent) (ws ts : List ℕ) (first many : ℕ) (entry a b : List ℕ) (r s : Walked) → Walks form l ws ts first many entry a r → Walks form l ws ts first many entry b s →
     (us : Trees) → StandingAll us ws ts first many → lawful (tablesOf l) ≡ true → entry ≡ replicate (slots * stride) 0 → (r ≡ s) × (r ≡ Walked.Done → a ≡ b)
-one-walk l ws ts first many entry a b r s f g us st rules zeros = go (placed (tablesOf l) first us) (f us st rules zeros) (g us st rules zeros)
+one-walk form l ws ts first many entry a b r s f g us st rules zeros = go (placed (tablesOf l) form first us) (f us st rules zeros) (g us st rules zeros)
   where
     go : (m : Result (List Placed)) → WalkedAs l m a r → WalkedAs l m b s → (r ≡ s) × (r ≡ Walked.Done → a ≡ b)
     go (ok ps) h k = (h .0 ∙ sym (k .0), λ e. one-kept l ps a b (h .1) (k .1))

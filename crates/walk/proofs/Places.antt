@@ -1,4 +1,4 @@
--- What commands define with their nodes is what they define, and is refused where they are.
+-- What parts define with their nodes is what they define, and is refused where they are.
 -- Assumes nothing.
 use mathlib.Core.Path.{_≡_, refl, ap, subst}
 use mathlib.Core.List.{List, [], _∷_, _++_, map}
@@ -6,8 +6,8 @@ use Prim.Native.Nat.{ℕ, _+_}
 use Rattle.arena.specs.Tree.{Trees, nil, cons, nodes}
 use Rattle.tables.specs.Sort.{Tables}
 use Rattle.sorts.specs.Result.{Result, ok, refused, _>>=_}
-use Rattle.commands.specs.Command.{command}
-use Rattle.model.specs.Model.{Definition, readCommand, readCommands}
+use Rattle.commands.specs.declared.form.Form.{Form}
+use Rattle.model.specs.Model.{Definition, readPart, readParts}
 use Rattle.walk.specs.Placed.{Placed, its, valueAt, placedAt, placed}
 
 placed-its : (i value : ℕ) (ds : List Definition) (ps : List Placed) → its (map (placedAt i value) ds ++ ps) ≡ ds ++ its ps
@@ -22,7 +22,8 @@ placed-more i value (ok ds) (refused r) q e = ap (λ (x : Result (List Definitio
 placed-more i value (ok ds) (ok ps) q e =
     subst (λ (x : Result (List Definition)). ok (its (map (placedAt i value) ds ++ ps)) ≡ (x >>= λ es. ok (ds ++ es))) e (ap ok (placed-its i value ds ps))
 
-pub placed-read : (T : Tables) (i : ℕ) (us : Trees) → (placed T i us >>= λ ps. ok (its ps)) ≡ readCommands T us
-unfolding _>>=_ placed readCommands
-placed-read T i nil = refl
-placed-read T i (cons t us) = placed-more i (valueAt t i) (readCommand T (command t)) (placed T (i + nodes t) us) (readCommands T us) (placed-read T (i + nodes t) us)
+pub placed-read : (T : Tables) (form : Form) (i : ℕ) (us : Trees) → (placed T form i us >>= λ ps. ok (its ps)) ≡ readParts T form us
+unfolding _>>=_ placed readParts
+placed-read T form i nil = refl
+placed-read T form i (cons t us) =
+    placed-more i (valueAt form t i) (readPart T form t) (placed T form (i + nodes t) us) (readParts T form us) (placed-read T form (i + nodes t) us)

@@ -1,4 +1,4 @@
--- How long a definition can be: 131,300 bytes a node of its command, and two for each byte of the command's text; and that its row is one of its table.
+-- How long a definition can be: 131,300 bytes a node of its command, or its pair, and two for each byte of the text there; and that its row is one of its table.
 -- Assumes nothing.
 use mathlib.Core.Path.{_≡_, refl, sym, ap, _∙_, subst}
 use mathlib.Core.Bool.{true, false}
@@ -10,12 +10,12 @@ use lib.ListN.{length, length-append}
 use Rattle.ground.specs.Bytes.{bytes}
 use Rattle.ground.specs.Lists.{at}
 use Rattle.refusals.specs.declared.Refusal.the-variants.{UnexpectedModel, UnmatchedType, UnexpectedForm}
-use Rattle.arena.specs.Tree.{Tree, Trees, symbol, app, nil, cons, nodes, text as treeText}
+use Rattle.arena.specs.Tree.{Tree, Trees, symbol, app, nil, cons}
 use Rattle.arena.proofs.Layouts.{nodes-some}
 use Rattle.tables.specs.Find.{variableRow, functionRow}
 use Rattle.tables.specs.Rules.{lawful}
 use Rattle.tables.specs.Sort.{Variable, Function, Tables}
-use Rattle.sorts.specs.Result.{Result, ok}
+use Rattle.sorts.specs.Result.{Result, ok, _>>=_}
 use Rattle.sorts.specs.Sort.{levels}
 use Rattle.values.specs.Text.{text}
 use Rattle.values.specs.Value.{Value, vBool}
@@ -24,9 +24,11 @@ use Rattle.literals.specs.Literal.{Lit, read}
 use Rattle.well_sorted.proofs.Finds.{at-within}
 use Rattle.well_sorted.proofs.Results.{refuses, ok-same, went, passed, was-found}
 use Rattle.well_sorted.proofs.Sizes.{roomBy, roomsBy, rooms-cons, read-short}
+use Rattle.commands.specs.declared.form.Form.{Form}
+use Rattle.commands.specs.Pair.{Pair, pair}
 use Rattle.commands.specs.Command.{Command, Chain, default, arm, chain, tests, key, command}
-use Rattle.commands.proofs.Shapes.{define, CommandView, c-variable, c-function, c-misshapen, command-view, TestView, t-left, t-right, key-view, tests-view, ite, chain-by}
-use Rattle.model.specs.Model.{Arm, armOf, Table, push, Definition, readChain, readTests, bodyBy, readBody, variableValue, functionTable, onRow, readCommand}
+use Rattle.commands.proofs.Shapes.{PairView, p-pair, p-none, pair-view, define, CommandView, c-variable, c-function, c-misshapen, command-view, TestView, t-left, t-right, key-view, tests-view, ite, chain-by}
+use Rattle.model.specs.Model.{Arm, armOf, Table, push, Definition, isVariable, readChain, readTests, bodyBy, readBody, valueAs, variableValue, functionTable, onRow, readCommand, readPair, readPart}
 use Rattle.model.specs.Listing.{line, armLines}
 use Rattle.model.proofs.Lengths.{length-line}
 use Rattle.definitions.specs.Measure.{valueSize, tableSize}
@@ -151,13 +153,18 @@ module _ (T : Tables) (rules : lawful T ≡ true) where
             let p = passed _ UnmatchedType _ t m in
             subst (λ (b : Tree). tableSize t ≤ room b) (sym (tests-view body us h)) (omega (arith, tests-short us t (p .1), or-room us))
 
-  value-short : (v : Variable) (sort t : Tree) (x : Value) → variableValue T v sort t ≡ ok x → valueSize x ≤ room t
-  value-short v sort t x e =
+  value-short : (row : ℕ) (t : Tree) (x : Value) → valueAs T row t ≡ ok x → valueSize x ≤ room t
+  value-short row t x e =
+      let l = went _ _ x e in
+      let p = passed _ UnmatchedType _ x (l .next) in
+      subst (λ (y : Value). valueSize y ≤ room t) (ok-same (p .1)) (omega (arith, literal-short (some row) t (l .got) (l .first)))
+
+  variable-short : (v : Variable) (sort t : Tree) (x : Value) → variableValue T v sort t ≡ ok x → valueSize x ≤ room t
+  variable-short v sort t x e =
       let s = went _ _ x e in
       let l = went _ _ x (s .next) in
       let p = passed _ UnmatchedType _ x (l .next) in
-      let r = passed _ UnmatchedType _ x (p .1) in
-      subst (λ (y : Value). valueSize y ≤ room t) (ok-same (r .1)) (omega (arith, literal-short (some (s .got)) t (l .got) (l .first)))
+      subst (λ (y : Value). valueSize y ≤ room t) (ok-same (p .1)) (value-short (s .got) t (l .got) (l .first))
 
   table-short : (f : Function) (x : List ℕ) (argSort sort body : Tree) (t : Table) → functionTable T f x argSort sort body ≡ ok t → tableSize t ≤ room body
   table-short f x argSort sort body t e =
@@ -167,11 +174,11 @@ module _ (T : Tables) (rules : lawful T ≡ true) where
       let q = passed _ UnmatchedType _ t (p .1) in
       body-short x (a .got) (r .got) body t (q .1)
 
-  -- a definition that a command gives: it is alone, its row is one of its table, and it is short
+  -- a definition that a part gives: it is alone, its row is one of its table, and it is short
   pub record Given (t : Tree) (d : Definition) (ds : List Definition) : Type 0 where
     pub alone : ds ≡ []
     pub within : Within T d
-    pub short : size d ≤ 131300 * nodes t + 2 * length (treeText t)
+    pub short : size d ≤ room t
 
   record Ruled {A : Type 0} (rows : List A) (rule : ℕ → A → Result Definition) (d : Definition) (ds : List Definition) : Type 0 where
     row : ℕ
@@ -203,16 +210,18 @@ module _ (T : Tables) (rules : lawful T ≡ true) where
         alone = sym (tail-same s);
       }
 
+  -- what a variable's rule gives
+  variable-given : (t : Tree) (rule : Variable → Result Value) → ((v : Variable) (x : Value) → rule v ≡ ok x → valueSize x ≤ room t) →
+      (o : Option ℕ) (d : Definition) (ds : List Definition) → onRow T (T .variables) o (λ i v. rule v >>= λ x. ok (isVariable i x)) ≡ ok (d ∷ ds) → Given t d ds
+  variable-given t rule short o d ds e =
+      let r = on-row (T .variables) o _ d ds e in
+      let w = went _ _ d (r .ruled) in
+      subst (λ (y : Definition). Given t y ds) (ok-same (w .next))
+      (record { alone = r .alone; within = at-within (T .variables) (r .row) (r .it) (r .there); short = short (r .it) (w .got) (w .first) })
+
   command-given : (t : Tree) (c : Command) → CommandView t c → (d : Definition) (ds : List Definition) → readCommand T c ≡ ok (d ∷ ds) → Given t d ds
   command-given _ _ (c-variable {name = name} {sort = sort} {t = t}) d ds e =
-      let r = on-row (T .variables) (variableRow T name) _ d ds e in
-      let w = went _ _ d (r .ruled) in
-      subst (λ (y : Definition). Given (define name nil sort t) y ds) (ok-same (w .next))
-      (record {
-        alone = r .alone;
-        within = at-within (T .variables) (r .row) (r .it) (r .there);
-        short = omega (arith, value-short (r .it) sort t (w .got) (w .first), define-room name nil sort t);
-      })
+      variable-given (define name nil sort t) (λ v. variableValue T v sort t) (λ v x h. omega (arith, variable-short v sort t x h, define-room name nil sort t)) (variableRow T name) d ds e
   command-given _ _ (c-function {name = name} {x = x} {argSort = argSort} {sort = sort} {body = body}) d ds e =
       let r = on-row (T .functions) (functionRow T name) _ d ds e in
       let w = went _ _ d (r .ruled) in
@@ -225,5 +234,12 @@ module _ (T : Tables) (rules : lawful T ≡ true) where
       })
   command-given _ _ c-misshapen d ds e = refuses e
 
-  pub tree-given : (t : Tree) (d : Definition) (ds : List Definition) → readCommand T (command t) ≡ ok (d ∷ ds) → Given t d ds
-  tree-given t d ds e = command-given t (command t) (command-view t) d ds e
+  pair-given : (t : Tree) (p : Option Pair) → PairView t p → (d : Definition) (ds : List Definition) → readPair T p ≡ ok (d ∷ ds) → Given t d ds
+  pair-given _ _ (p-pair {name = name} {t = t}) d ds e =
+      variable-given (app (cons (symbol name) (cons t nil))) (λ v. valueAs T (v .sort) t)
+      (λ v x h. omega (arith, value-short (v .sort) t x h, rooms-cons 131300 (symbol name) (cons t nil), rooms-cons 131300 t nil)) (variableRow T name) d ds e
+  pair-given _ _ p-none d ds e = refuses e
+
+  pub tree-given : (form : Form) (t : Tree) (d : Definition) (ds : List Definition) → readPart T form t ≡ ok (d ∷ ds) → Given t d ds
+  tree-given Form.Model t d ds e = command-given t (command t) (command-view t) d ds e
+  tree-given Form.Values t d ds e = pair-given t (pair t) (pair-view t) d ds e

@@ -1,15 +1,18 @@
--- Document 01, "The model walk": what one command answers: skipped; which name of the tables it defines, where its value stands and how long
--- its text is; or the refusal.
+-- Document 01, "The model walk", and document 02, R-1: what one command, or one pair, answers: skipped; which name of the tables it defines,
+-- where its value stands and how long its text is; or the refusal.
 use mathlib.Core.Path.{_≡_}
 use mathlib.Core.List.{List, [], _∷_}
+use mathlib.Core.Option.{some}
 use Prim.Native.Nat.{ℕ, _+_}
 use Rattle.arena.specs.Tree.{Tree}
 use Rattle.tables.specs.Layout.{Lent, count, tablesOf}
 use Rattle.shapes.specs.Shows.{Standing, Reads}
 use Rattle.sorts.specs.Result.{Result, ok, refused}
 use Rattle.literals.specs.Answer.{capped}
-use Rattle.commands.specs.Command.{variable, function, command}
-use Rattle.model.specs.Model.{Definition, isVariable, isFunction, readCommand}
+use Rattle.commands.specs.declared.form.Form.{Form}
+use Rattle.commands.specs.Pair.{pairOf}
+use Rattle.commands.specs.Command.{variable, function}
+use Rattle.model.specs.Model.{Definition, isVariable, isFunction, readCommand, readPair, readPart}
 use Rattle.definitions.specs.declared.measure.Measured.{Measured}
 use Rattle.definitions.specs.Measure.{valueSize, tableSize}
 use Rattle.walk.specs.declared.command.Noted.{Noted}
@@ -36,10 +39,16 @@ abbrev pub notedAs : Measured → ℕ → ℕ → Noted
 notedAs (Measured.Need n) k value = Noted.Defines k value n
 notedAs (Measured.Refused r) k value = Noted.Refused r
 
+-- the part at a node
+abbrev pub NotesAt : Form → Lent → List ℕ → List ℕ → ℕ → Noted → Type 0
+NotesAt form l ws ts i r = (t : Tree) → Standing t ws ts i → r ≡ noted l (readPart (tablesOf l) form t) (valueAt form t i)
+
 module _ (l : Lent) (ws ts : List ℕ) where
-  -- the command at a node
-  abbrev pub NotesAt : ℕ → Noted → Type 0
-  NotesAt i r = (t : Tree) → Standing t ws ts i → r ≡ noted l (readCommand (tablesOf l) (command t)) (valueAt t i)
+  -- a pair, by the text of its name and the node of its value
+  abbrev pub NotesPair : ℕ → ℕ → ℕ → Noted → Type 0
+  NotesPair offset long value r =
+      (name : List ℕ) (t : Tree) → Reads name ts offset long → Standing t ws ts value →
+      r ≡ noted l (readPair (tablesOf l) (some (pairOf name t))) value
 
   -- a command of the one form and of the other, by the text of its name and the nodes of its parts
   abbrev pub NotesVariable : ℕ → ℕ → ℕ → ℕ → Noted → Type 0

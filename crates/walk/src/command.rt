@@ -12,6 +12,9 @@ use tables::find_function;
 use tables::find_variable;
 use tables::word;
 ghost use mathlib.Core.Path.{_≡_};
+ghost use Rattle.arena.specs.Text.{textAt};
+ghost use Rattle.tables.specs.Lookup.{FindsVariable};
+ghost use Rattle.commands.specs.declared.form.Form.{Form};
 ghost use Rattle.walk.specs.Noted.{notedAs, NotesVariable, NotesFunction, NotesAt};
 
 pub enum Noted {
@@ -24,13 +27,23 @@ pub enum Noted {
     Refused(Refusal),
 }
 
-fn noted_as(measured: Measured, slot: usize, value: usize) -> Noted
+pub fn noted_as(measured: Measured, slot: usize, value: usize) -> Noted
     ensures { λ r. ⌜ r ≡ notedAs measured slot value ⌝ }
 {
     match measured {
         Measured::Need(need) => Noted::Defines { slot, value, need },
         Measured::Refused(refusal) => Noted::Refused(refusal),
     }
+}
+
+// The row of the variable that a text names.
+pub fn variable_row(variables: &[u64], names: &[u8], text: &[u8], offset: u64, size: u64) -> Found
+    ensures { λ r. ⌜ FindsVariable (now (variables .entry)) (now (names .entry)) (textAt (now (text .entry)) offset size) r ⌝ }
+{
+    let range = clamp(offset, size, text.len());
+    let start = range.start;
+    let end = range.end;
+    find_variable(variables, names, &text[start..end])
 }
 
 // A name that is not in the variable table is skipped unread.
@@ -50,10 +63,7 @@ fn note_variable(
 ) -> Noted
     ensures { λ r. ⌜ NotesVariable (record { sorts = now (sorts .entry); fields = now (fields .entry); variables = now (variables .entry); functions = now (functions .entry); members = now (members .entry); names = now (names .entry) }) (now (nodes .entry)) (now (text .entry)) offset size sort value r ⌝ }
 {
-    let range = clamp(offset, size, text.len());
-    let start = range.start;
-    let end = range.end;
-    let found = find_variable(variables, names, &text[start..end]);
+    let found = variable_row(variables, names, text, offset, size);
     match found {
         Found::Row(row) => {
             let declared = word(variables, row, 2) as usize;
@@ -135,7 +145,7 @@ pub fn check_command(
     text: &[u8],
     at: usize,
 ) -> Noted
-    ensures { λ r. ⌜ NotesAt (record { sorts = now (sorts .entry); fields = now (fields .entry); variables = now (variables .entry); functions = now (functions .entry); members = now (members .entry); names = now (names .entry) }) (now (nodes .entry)) (now (text .entry)) at r ⌝ }
+    ensures { λ r. ⌜ NotesAt Form.Model (record { sorts = now (sorts .entry); fields = now (fields .entry); variables = now (variables .entry); functions = now (functions .entry); members = now (members .entry); names = now (names .entry) }) (now (nodes .entry)) (now (text .entry)) at r ⌝ }
 {
     let command = command_at(nodes, text, at);
     match command {

@@ -1,6 +1,7 @@
-// The walk over a model's commands: each is checked, and of each name in the tables the last definition is noted.
+// The walk over a reply's parts, a model's commands or get-value's pairs: each is checked, and of each name in the tables the last definition is noted.
 mod command;
 mod last;
+mod pair;
 mod walk;
 
 pub use last::NEED;
@@ -9,4 +10,4 @@ pub use last::VALUE;
 pub use last::WORDS;
 pub use last::noted;
 pub use walk::Walked;
-pub use walk::walk_commands;
+pub use walk::walk_parts;
