@@ -1,10 +1,11 @@
-// The public call: the tables are checked, then the arena, then the commands are walked, and then the room is looked at.
+// The public calls: the tables are checked, then the arena, then the parts of the reply are walked, and then the room is looked at.
 use crate::entry::write_entries;
 use crate::header::header_need;
 use crate::header::write_header;
 use crate::tally::tally_entries;
 use arena_check::Checked as Arena;
 use arena_check::check_arena;
+use commands::Form;
 use lent::Written;
 use literals::plus;
 use moves::clear;
@@ -15,9 +16,10 @@ use tables::Checked;
 use tables::check_tables;
 use walk::WORDS;
 use walk::Walked;
-use walk::walk_commands;
+use walk::walk_parts;
+ghost use Rattle.commands.specs.declared.form.Form.{Form as Forms};
 ghost use Rattle.listing.specs.Lists.{Lists};
-ghost use Rattle.listing.specs.Stages.{Zeroed, Finishes, Commanded, Modelled, Stored};
+ghost use Rattle.listing.specs.Stages.{Zeroed, Finishes, Parted, Replied, Stored};
 
 // Zeros from a place up to another one.
 fn clear_between(out: &mut [u8], start: usize, end: usize)
@@ -71,8 +73,9 @@ fn list_noted(
     Written::Length(end)
 }
 
-// So many commands from node 1 on.
-fn list_commands(
+// So many parts from node 1 on.
+fn list_parts(
+    form: Form,
     sorts: &[u64],
     fields: &[u64],
     variables: &[u64],
@@ -86,9 +89,10 @@ fn list_commands(
     scratch: &mut [u8],
     out: &mut [u8],
 ) -> Written
-    ensures { λ r. ⌜ Commanded (record { sorts = now (sorts .entry); fields = now (fields .entry); variables = now (variables .entry); functions = now (functions .entry); members = now (members .entry); names = now (names .entry) }) (now (nodes .entry)) (now (text .entry)) count (now (last .entry)) (now (out .entry)) r (now (out .exit)) ⌝ }
+    ensures { λ r. ⌜ Parted form (record { sorts = now (sorts .entry); fields = now (fields .entry); variables = now (variables .entry); functions = now (functions .entry); members = now (members .entry); names = now (names .entry) }) (now (nodes .entry)) (now (text .entry)) count (now (last .entry)) (now (out .entry)) r (now (out .exit)) ⌝ }
 {
-    let walked = walk_commands(
+    let walked = walk_parts(
+        form,
         sorts,
         fields,
         variables,
@@ -118,8 +122,9 @@ fn list_commands(
     }
 }
 
-// A model whose tables and arena passed; 13 where its root is no list.
+// A reply whose tables and arena passed; 13 where its root is no list.
 fn list_checked(
+    form: Form,
     sorts: &[u64],
     fields: &[u64],
     variables: &[u64],
@@ -132,11 +137,12 @@ fn list_checked(
     scratch: &mut [u8],
     out: &mut [u8],
 ) -> Written
-    ensures { λ r. ⌜ Modelled (record { sorts = now (sorts .entry); fields = now (fields .entry); variables = now (variables .entry); functions = now (functions .entry); members = now (members .entry); names = now (names .entry) }) (now (nodes .entry)) (now (text .entry)) (now (last .entry)) (now (out .entry)) r (now (out .exit)) ⌝ }
+    ensures { λ r. ⌜ Replied form (record { sorts = now (sorts .entry); fields = now (fields .entry); variables = now (variables .entry); functions = now (functions .entry); members = now (members .entry); names = now (names .entry) }) (now (nodes .entry)) (now (text .entry)) (now (last .entry)) (now (out .entry)) r (now (out .exit)) ⌝ }
 {
     let list = list_at(nodes, 0);
     match list {
-        Parts::Children(count) => list_commands(
+        Parts::Children(count) => list_parts(
+            form,
             sorts,
             fields,
             variables,
@@ -154,8 +160,9 @@ fn list_checked(
     }
 }
 
-// A model whose tables passed; 27 where the words and the text are no tree's.
+// A reply whose tables passed; 27 where the words and the text are no tree's.
 fn list_stored(
+    form: Form,
     sorts: &[u64],
     fields: &[u64],
     variables: &[u64],
@@ -168,11 +175,12 @@ fn list_stored(
     scratch: &mut [u8],
     out: &mut [u8],
 ) -> Written
-    ensures { λ r. ⌜ Stored (record { sorts = now (sorts .entry); fields = now (fields .entry); variables = now (variables .entry); functions = now (functions .entry); members = now (members .entry); names = now (names .entry) }) (now (nodes .entry)) (now (text .entry)) (now (last .entry)) (now (out .entry)) r (now (out .exit)) ⌝ }
+    ensures { λ r. ⌜ Stored form (record { sorts = now (sorts .entry); fields = now (fields .entry); variables = now (variables .entry); functions = now (functions .entry); members = now (members .entry); names = now (names .entry) }) (now (nodes .entry)) (now (text .entry)) (now (last .entry)) (now (out .entry)) r (now (out .exit)) ⌝ }
 {
     let stored = check_arena(nodes, text);
     match stored {
         Arena::Tree { nodes: _, text: _ } => list_checked(
+            form,
             sorts,
             fields,
             variables,
@@ -189,8 +197,9 @@ fn list_stored(
     }
 }
 
-// The last definitions of the tables' names in a model, in table order.
-pub fn list_model(
+// The last definitions of the tables' names in a reply of the form, in table order.
+pub fn list_form(
+    form: Form,
     sorts: &[u64],
     fields: &[u64],
     variables: &[u64],
@@ -201,13 +210,14 @@ pub fn list_model(
     text: &[u8],
     out: &mut [u8],
 ) -> Written
-    ensures { λ r. ⌜ Lists (record { sorts = now (sorts .entry); fields = now (fields .entry); variables = now (variables .entry); functions = now (functions .entry); members = now (members .entry); names = now (names .entry) }) (now (nodes .entry)) (now (text .entry)) (now (out .entry)) r (now (out .exit)) ⌝ }
+    ensures { λ r. ⌜ Lists form (record { sorts = now (sorts .entry); fields = now (fields .entry); variables = now (variables .entry); functions = now (functions .entry); members = now (members .entry); names = now (names .entry) }) (now (nodes .entry)) (now (text .entry)) (now (out .entry)) r (now (out .exit)) ⌝ }
 {
     let mut last: [usize; WORDS] = [0; WORDS];
     let mut scratch: [u8; 65536] = [0; 65536];
     let tabled = check_tables(sorts, fields, variables, functions, members, names);
     match tabled {
         Checked::Passed => list_stored(
+            form,
             sorts,
             fields,
             variables,
@@ -222,4 +232,60 @@ pub fn list_model(
         ),
         Checked::Refused(_) => Written::Refused(Refusal::BadTable),
     }
+}
+
+// Of a model.
+pub fn list_model(
+    sorts: &[u64],
+    fields: &[u64],
+    variables: &[u64],
+    functions: &[u64],
+    members: &[u64],
+    names: &[u8],
+    nodes: &[u64],
+    text: &[u8],
+    out: &mut [u8],
+) -> Written
+    ensures { λ r. ⌜ Lists Forms.Model (record { sorts = now (sorts .entry); fields = now (fields .entry); variables = now (variables .entry); functions = now (functions .entry); members = now (members .entry); names = now (names .entry) }) (now (nodes .entry)) (now (text .entry)) (now (out .entry)) r (now (out .exit)) ⌝ }
+{
+    list_form(
+        Form::Model,
+        sorts,
+        fields,
+        variables,
+        functions,
+        members,
+        names,
+        nodes,
+        text,
+        out,
+    )
+}
+
+// Of a reply to get-value: as a model without functions.
+pub fn list_values(
+    sorts: &[u64],
+    fields: &[u64],
+    variables: &[u64],
+    functions: &[u64],
+    members: &[u64],
+    names: &[u8],
+    nodes: &[u64],
+    text: &[u8],
+    out: &mut [u8],
+) -> Written
+    ensures { λ r. ⌜ Lists Forms.Values (record { sorts = now (sorts .entry); fields = now (fields .entry); variables = now (variables .entry); functions = now (functions .entry); members = now (members .entry); names = now (names .entry) }) (now (nodes .entry)) (now (text .entry)) (now (out .entry)) r (now (out .exit)) ⌝ }
+{
+    list_form(
+        Form::Values,
+        sorts,
+        fields,
+        variables,
+        functions,
+        members,
+        names,
+        nodes,
+        text,
+        out,
+    )
 }

@@ -1,4 +1,5 @@
-// One case: `M` for the program's rooms, `L` for larger ones or another letter for what is not lent, the tables' text and the reply, in hexadecimal.
+// One case: `M` for the program's rooms, `L` for larger ones or another letter for what is not lent, small where the reply is one to get-value;
+// the tables' text and the reply, in hexadecimal.
 use crate::rooms::show_case;
 ghost use mathlib.Core.Path.{_≡_};
 ghost use lib.ListN.{length};
@@ -16,12 +17,12 @@ pub fn answer(case: &[u8]) {
     }
     let mut tables = case_bytes();
     let mut reply = case_bytes();
-    let kind = case[0];
+    let letter = case[0];
     let start = 2;
     let end = replay::field_end(case, start, b' ');
     let rows = replay::unhex(&case[start..end], &mut tables);
     let second = replay::next_field(case, start);
     let bytes = replay::unhex(&case[second..], &mut reply);
     let zero = 0;
-    show_case(kind, &tables[zero..rows], &reply[zero..bytes]);
+    show_case(letter, &tables[zero..rows], &reply[zero..bytes]);
 }

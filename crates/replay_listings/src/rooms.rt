@@ -1,4 +1,5 @@
-// A case in its rooms, and its listing in no room, in just as much as it needs, and in one byte less.
+// A case in its rooms, by the form of its reply, and its listing in no room, in just as much as it needs, and in one byte less.
+use commands::Form;
 use lent::Written;
 ghost use mathlib.Core.Path.{_≡_};
 ghost use Prim.Native.Nat.{_≤_};
@@ -6,6 +7,21 @@ ghost use lib.ListN.{length};
 
 // The number of 26.
 const OUT_ROOM: u64 = 26;
+
+// A small letter is of a reply to get-value, in the rooms of the large one.
+fn form_of(letter: u8) -> Form {
+    if letter < b'a' {
+        return Form::Model;
+    }
+    Form::Values
+}
+
+fn rooms_of(letter: u8) -> u8 {
+    if letter < b'a' {
+        return letter;
+    }
+    letter - 32
+}
 
 // How much of a room is lent: nothing of the one that the case's letter names.
 fn room(kind: u8, letter: u8, whole: usize) -> usize
@@ -18,10 +34,11 @@ fn room(kind: u8, letter: u8, whole: usize) -> usize
 }
 
 // The listing of no tables and no words, which are no arena.
-fn list_nothing(out: &mut [u8]) -> Written {
+fn list_nothing(form: Form, out: &mut [u8]) -> Written {
     let words: [u64; 0] = [];
     let bytes: [u8; 0] = [];
-    listing::list_model(
+    listing::list_form(
+        form,
         &words,
         &words,
         &words,
@@ -48,7 +65,7 @@ fn stack_words() -> [u64; 8192]
 }
 
 // In rooms of its own, but for the one that the letter takes away.
-fn list_less(kind: u8, tables: &[u8], reply: &[u8], out: &mut [u8]) -> Written {
+fn list_less(form: Form, kind: u8, tables: &[u8], reply: &[u8], out: &mut [u8]) -> Written {
     let mut nodes = node_words();
     let mut text = io::large_buffer();
     let mut stack = stack_words();
@@ -58,6 +75,7 @@ fn list_less(kind: u8, tables: &[u8], reply: &[u8], out: &mut [u8]) -> Written {
     let depth = room(kind, b'S', stack.len());
     let size = room(kind, b'O', out.len());
     reply::list_in(
+        form,
         tables,
         reply,
         &mut nodes[zero..words],
@@ -67,22 +85,24 @@ fn list_less(kind: u8, tables: &[u8], reply: &[u8], out: &mut [u8]) -> Written {
     )
 }
 
-fn list(kind: u8, tables: &[u8], reply: &[u8], out: &mut [u8]) -> Written {
+fn list(letter: u8, tables: &[u8], reply: &[u8], out: &mut [u8]) -> Written {
+    let form = form_of(letter);
+    let kind = rooms_of(letter);
     if kind == b'M' {
-        return reply::list_reply(tables, reply, out);
+        return reply::list_reply(form, tables, reply, out);
     }
     if kind == b'A' {
-        return list_nothing(out);
+        return list_nothing(form, out);
     }
-    list_less(kind, tables, reply, out)
+    list_less(form, kind, tables, reply, out)
 }
 
 // What is printed, in the program's rooms by the function behind it.
-fn print(kind: u8, tables: &[u8], reply: &[u8], out: &mut [u8]) -> usize {
-    if kind == b'M' {
-        return reply::print_reply(tables, reply, out);
+fn print(letter: u8, tables: &[u8], reply: &[u8], out: &mut [u8]) -> usize {
+    if rooms_of(letter) == b'M' {
+        return reply::print_reply(form_of(letter), tables, reply, out);
     }
-    let answer = list(kind, tables, reply, out);
+    let answer = list(letter, tables, reply, out);
     match answer {
         Written::Length(count) => count,
         Written::Refused(why) => reply::put_refusal(why, out),
@@ -106,7 +126,7 @@ fn show_told(need: usize, full: Written, short: Written, line: &mut [u8]) {
 }
 
 // The listing in just as much as it needs, and in one byte less.
-fn show_rooms(kind: u8, tables: &[u8], reply: &[u8], out: &mut [u8], need: usize, line: &mut [u8]) {
+fn show_rooms(letter: u8, tables: &[u8], reply: &[u8], out: &mut [u8], need: usize, line: &mut [u8]) {
     if out.len() < need {
         return;
     }
@@ -114,33 +134,33 @@ fn show_rooms(kind: u8, tables: &[u8], reply: &[u8], out: &mut [u8], need: usize
         return;
     }
     let zero = 0;
-    let full = list(kind, tables, reply, &mut out[zero..need]);
+    let full = list(letter, tables, reply, &mut out[zero..need]);
     let less = need - 1;
-    let short = list(kind, tables, reply, &mut out[zero..less]);
+    let short = list(letter, tables, reply, &mut out[zero..less]);
     show_told(need, full, short, line);
 }
 
 // The need of a listing is what it tells in no room, where a room is lent at all.
-fn show_need(kind: u8, tables: &[u8], reply: &[u8], out: &mut [u8], line: &mut [u8]) {
-    if kind == b'O' {
+fn show_need(letter: u8, tables: &[u8], reply: &[u8], out: &mut [u8], line: &mut [u8]) {
+    if rooms_of(letter) == b'O' {
         return;
     }
     let zero = 0;
-    let none = list(kind, tables, reply, &mut out[zero..zero]);
+    let none = list(letter, tables, reply, &mut out[zero..zero]);
     let Written::Refused(why) = none else {
         return;
     };
     if why.number() != OUT_ROOM {
         return;
     }
-    show_rooms(kind, tables, reply, out, why.detail(), line);
+    show_rooms(letter, tables, reply, out, why.detail(), line);
 }
 
-pub fn show_case(kind: u8, tables: &[u8], reply: &[u8]) {
+pub fn show_case(letter: u8, tables: &[u8], reply: &[u8]) {
     let mut out = io::large_buffer();
     let mut line = io::buffer();
-    let count = print(kind, tables, reply, &mut out);
+    let count = print(letter, tables, reply, &mut out);
     replay::flush(&out, count);
-    show_need(kind, tables, reply, &mut out, &mut line);
+    show_need(letter, tables, reply, &mut out, &mut line);
     replay::finish(&mut line, 0);
 }

@@ -1,4 +1,4 @@
-// A tables' text and a reply, in; the bytes that program `modellist` prints, out.
+// A tables' text and a reply, in; the bytes that programs `modellist` and `valuelist` print, out.
 mod reply;
 mod rooms;
 mod show;

@@ -1,6 +1,7 @@
 // A tables' text and a reply in lent rooms. The order of refusals: 9, then the tables', the reader's, the walk's.
+use commands::Form;
 use lent::Written;
-use listing::list_model;
+use listing::list_form;
 use reader::Reading;
 use reader::parse_sexpr;
 use refusals::Refusal;
@@ -30,6 +31,7 @@ fn field_words() -> [u64; 32768]
 
 // The reply read and walked, over tables that stand in their words.
 fn list_text(
+    form: Form,
     sorts: &[u64],
     fields: &[u64],
     variables: &[u64],
@@ -42,7 +44,7 @@ fn list_text(
     stack: &mut [u64],
     out: &mut [u8],
 ) -> Written
-    ensures { λ r. ⌜ ReadsOn (record { sorts = now (sorts .entry); fields = now (fields .entry); variables = now (variables .entry); functions = now (functions .entry); members = now (members .entry); names = now (names .entry) }) (now (reply .entry)) (record { nodes = now (nodes .entry); text = now (text .entry); stack = now (stack .entry) }) (now (out .entry)) r (record { nodes = now (nodes .exit); text = now (text .exit); stack = now (stack .exit) }) (now (out .exit)) ⌝ }
+    ensures { λ r. ⌜ ReadsOn form (record { sorts = now (sorts .entry); fields = now (fields .entry); variables = now (variables .entry); functions = now (functions .entry); members = now (members .entry); names = now (names .entry) }) (now (reply .entry)) (record { nodes = now (nodes .entry); text = now (text .entry); stack = now (stack .entry) }) (now (out .entry)) r (record { nodes = now (nodes .exit); text = now (text .exit); stack = now (stack .exit) }) (now (out .exit)) ⌝ }
 {
     let reading = parse_sexpr(reply, nodes, text, stack);
     match reading {
@@ -50,7 +52,8 @@ fn list_text(
             nodes: _,
             text: _,
             depth: _,
-        } => list_model(
+        } => list_form(
+            form,
             sorts,
             fields,
             variables,
@@ -67,6 +70,7 @@ fn list_text(
 
 // The listing of a reply over the tables that a text spells, the tree in the rooms that are lent for it.
 pub fn list_in(
+    form: Form,
     tables: &[u8],
     reply: &[u8],
     nodes: &mut [u64],
@@ -74,7 +78,7 @@ pub fn list_in(
     stack: &mut [u64],
     out: &mut [u8],
 ) -> Written
-    ensures { λ r. ⌜ Replies (now (tables .entry)) (now (reply .entry)) (record { nodes = now (nodes .entry); text = now (text .entry); stack = now (stack .entry) }) (now (out .entry)) r (record { nodes = now (nodes .exit); text = now (text .exit); stack = now (stack .exit) }) (now (out .exit)) ⌝ }
+    ensures { λ r. ⌜ Replies form (now (tables .entry)) (now (reply .entry)) (record { nodes = now (nodes .entry); text = now (text .entry); stack = now (stack .entry) }) (now (out .entry)) r (record { nodes = now (nodes .exit); text = now (text .exit); stack = now (stack .exit) }) (now (out .exit)) ⌝ }
 {
     if LIMIT < tables.len() {
         return Written::Refused(Refusal::InputTooLong);
@@ -105,6 +109,7 @@ pub fn list_in(
         } => {
             let zero = 0;
             list_text(
+                form,
                 &sorts[zero..a],
                 &fields[zero..b],
                 &variables[zero..c],

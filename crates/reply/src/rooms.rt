@@ -1,5 +1,6 @@
-// The rooms of program `modellist`: 2,048 nodes, 65,536 text bytes, depth 4,096.
+// The rooms of programs `modellist` and `valuelist`: 2,048 nodes, 65,536 text bytes, depth 4,096.
 use crate::reply::list_in;
+use commands::Form;
 use lent::Written;
 use reader::PROGRAM_WORDS;
 ghost use mathlib.Core.Path.{_≡_};
@@ -26,11 +27,11 @@ fn stack_words() -> [u64; 4096]
 }
 
 // The listing of a reply in the program's rooms.
-pub fn list_reply(tables: &[u8], reply: &[u8], out: &mut [u8]) -> Written
-    ensures { λ r. ⌜ Lists (now (tables .entry)) (now (reply .entry)) (now (out .entry)) r (now (out .exit)) ⌝ }
+pub fn list_reply(form: Form, tables: &[u8], reply: &[u8], out: &mut [u8]) -> Written
+    ensures { λ r. ⌜ Lists form (now (tables .entry)) (now (reply .entry)) (now (out .entry)) r (now (out .exit)) ⌝ }
 {
     let mut nodes = node_words();
     let mut text = text_bytes();
     let mut stack = stack_words();
-    list_in(tables, reply, &mut nodes, &mut text, &mut stack, out)
+    list_in(form, tables, reply, &mut nodes, &mut text, &mut stack, out)
 }

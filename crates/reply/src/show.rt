@@ -1,5 +1,6 @@
 // What is printed: the listing, or the two lines of a refusal.
 use crate::rooms::list_reply;
+use commands::Form;
 use decimals::digit_count;
 use lent::Written;
 use lent::put;
@@ -29,10 +30,10 @@ pub fn put_refusal(why: Refusal, out: &mut [u8]) -> usize
 }
 
 // The bytes to print stand at the front of the buffer; answers how many they are.
-pub fn print_reply(tables: &[u8], reply: &[u8], out: &mut [u8]) -> usize
-    ensures { λ r. ⌜ Prints (now (tables .entry)) (now (reply .entry)) (now (out .entry)) r (now (out .exit)) ⌝ }
+pub fn print_reply(form: Form, tables: &[u8], reply: &[u8], out: &mut [u8]) -> usize
+    ensures { λ r. ⌜ Prints form (now (tables .entry)) (now (reply .entry)) (now (out .entry)) r (now (out .exit)) ⌝ }
 {
-    let answer = list_reply(tables, reply, out);
+    let answer = list_reply(form, tables, reply, out);
     match answer {
         Written::Length(count) => count,
         Written::Refused(why) => put_refusal(why, out),
