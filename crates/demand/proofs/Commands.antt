@@ -1,6 +1,6 @@
--- What a command defines, and the last definitions of many: values that are read from the last terms, and tables from the last bodies.
+-- What a part of a reply defines, and the last definitions of many: values that are read from the last terms, and tables from the last bodies.
 -- Assumes nothing.
-use mathlib.Core.Path.{_≡_, ap, ap₂, sym, _∙_, subst}
+use mathlib.Core.Path.{_≡_, refl, ap, ap₂, sym, _∙_, subst}
 use mathlib.Core.Bool.{true, cond}
 use mathlib.Core.List.{List, [], _∷_, _++_}
 use mathlib.Core.Option.{Option, none, some}
@@ -20,11 +20,13 @@ use Rattle.values.specs.Value.{Value}
 use Rattle.literals.specs.Literal.{Lit, read}
 use Rattle.well_sorted.specs.Octets.{Octets, OctetsAll}
 use Rattle.well_sorted.proofs.Results.{refuses, ok-same, went, passed, was-found}
+use Rattle.commands.specs.declared.form.Form.{Form}
+use Rattle.commands.specs.Pair.{Pair, pair}
 use Rattle.commands.specs.Command.{Command, command}
-use Rattle.commands.proofs.Shapes.{CommandView, c-variable, c-function, c-misshapen, command-view}
-use Rattle.model.specs.Model.{Table, Definition, isVariable, isFunction, readBody, variableValue, functionTable, onRow, readCommand, readCommands, orElse, variableIn, functionIn, lastVariable, lastFunction}
+use Rattle.commands.proofs.Shapes.{PairView, p-pair, p-none, pair-view, CommandView, c-variable, c-function, c-misshapen, command-view}
+use Rattle.model.specs.Model.{Table, Definition, isVariable, isFunction, readBody, valueAs, variableValue, functionTable, onRow, readCommand, readPair, readPart, readParts, orElse, variableIn, functionIn, lastVariable, lastFunction}
 use Rattle.model.proofs.Choices.{or-none, or-assoc}
-use Rattle.demand.specs.Last.{Body, isRow, termIn, bodyIn, lastTermIn, lastBodyIn}
+use Rattle.demand.specs.Last.{Body, isRow, termIn, secondIn, termOf, bodyIn, lastTermIn, lastBodyIn}
 
 -- a name that is in its table, or not
 data OnRow {A : Type 0} (rows : List A) (rule : ℕ → A → Result Definition) : Option ℕ → List Definition → Type 0 where
@@ -76,23 +78,32 @@ module _ (T : Tables) where
     unfolding lastVariable
     one-variable j v t f = by-test (eqb i j) (λ h. rw h (f h)) (λ h. rw h no-term)
 
-    value-read : (y : Variable) (sort t : Tree) (v : Value) → y ≡ x → Octets t → variableValue T y sort t ≡ ok v → Reads (some v) (some t)
-    value-read y sort t v q o e =
+    value-read : (row : ℕ) (t : Tree) (v : Value) → row ≡ x .sort → Octets t → valueAs T row t ≡ ok v → Reads (some v) (some t)
+    value-read row t v q o e =
+        let l = went _ _ v e in
+        let p = passed _ UnmatchedType _ v (l .next) in
+        subst (λ (u : Value). Reads (some u) (some t)) (ok-same (p .1))
+        (of-term (l .got) o (subst (λ (n : ℕ). read T levels (some n) t ≡ ok (l .got)) q (l .first)) (subst (λ (n : ℕ). eqb (l .got .row) n ≡ true) q (p .0)))
+
+    variable-read : (sort t : Tree) → Octets t → (y : Variable) (v : Value) → y ≡ x → variableValue T y sort t ≡ ok v → Reads (some v) (some t)
+    variable-read sort t o y v q e =
         let s = went _ _ v e in
         let l = went _ _ v (s .next) in
-        let p = passed _ UnmatchedType _ v (l .next) in
-        let r = passed _ UnmatchedType _ v (p .1) in
-        let g : s .got ≡ x .sort = sym (eqb-true _ _ (r .0)) ∙ ap (λ (k : Variable). k .sort) q in
+        let r = passed _ UnmatchedType _ v (l .next) in
         subst (λ (u : Value). Reads (some u) (some t)) (ok-same (r .1))
-        (of-term (l .got) o (subst (λ (row : ℕ). read T levels (some row) t ≡ ok (l .got)) g (l .first)) (subst (λ (row : ℕ). eqb (l .got .row) row ≡ true) g (p .0)))
+        (value-read (s .got) t (l .got) (sym (eqb-true _ _ (r .0)) ∙ ap (λ (k : Variable). k .sort) q) o (l .first))
 
-    value-taken : (sort t : Tree) (o : Option ℕ) (ds : List Definition) → Octets t →
-        OnRow (T .variables) (λ j y. variableValue T y sort t >>= λ v. ok (isVariable j v)) o ds → Reads (lastVariable i ds) (cond (isRow i o) (some t) none)
-    value-taken sort t _ _ p skipped = no-variable
-    value-taken sort t _ _ p (taken {j = j} y d e m) =
+    second-read : (t : Tree) → Octets t → (y : Variable) (v : Value) → y ≡ x → valueAs T (y .sort) t ≡ ok v → Reads (some v) (some t)
+    second-read t o y v q e = value-read (y .sort) t v (ap (λ (k : Variable). k .sort) q) o e
+
+    -- by the rule of a variable's row
+    value-taken : (t : Tree) (rule : Variable → Result Value) → ((y : Variable) (v : Value) → y ≡ x → rule y ≡ ok v → Reads (some v) (some t)) → (o : Option ℕ) (ds : List Definition) →
+        OnRow (T .variables) (λ j y. rule y >>= λ v. ok (isVariable j v)) o ds → Reads (lastVariable i ds) (cond (isRow i o) (some t) none)
+    value-taken t rule f _ _ skipped = no-variable
+    value-taken t rule f _ _ (taken {j = j} y d e m) =
         let w = went _ _ d m in
         subst (λ (k : Definition). Reads (lastVariable i (k ∷ [])) (cond (eqb i j) (some t) none)) (ok-same (w .next))
-        (one-variable j (w .got) t (λ h. value-read y sort t (w .got) (one-row (T .variables) i j x y there e h) p (w .first)))
+        (one-variable j (w .got) t (λ h. f y (w .got) (one-row (T .variables) i j x y there e h) (w .first)))
 
     table-taken : (name : List ℕ) (argSort sort body : Tree) (o : Option ℕ) (ds : List Definition) →
         OnRow (T .functions) (λ j f. functionTable T f name argSort sort body >>= λ t. ok (isFunction j t)) o ds → Reads (lastVariable i ds) none
@@ -103,21 +114,30 @@ module _ (T : Tables) where
 
     command-reads : (t : Tree) (c : Command) → CommandView t c → (ds : List Definition) → Octets t → readCommand T c ≡ ok ds → Reads (lastVariable i ds) (termIn T i c)
     command-reads _ _ (c-variable {name = name} {sort = sort} {t = t}) ds o e =
-        value-taken sort t (variableRow T name) ds (o .1 .1 .1 .1 .0) (on-row T (T .variables) (variableRow T name) _ ds e)
+        value-taken t (λ y. variableValue T y sort t) (variable-read sort t (o .1 .1 .1 .1 .0)) (variableRow T name) ds (on-row T (T .variables) (variableRow T name) _ ds e)
     command-reads _ _ (c-function {name = name} {x = y} {argSort = argSort} {sort = sort} {body = body}) ds o e =
         table-taken y argSort sort body (functionRow T name) ds (on-row T (T .functions) (functionRow T name) _ ds e)
     command-reads _ _ c-misshapen ds o e = refuses e
 
-    pub commands-read : (us : Trees) (ds : List Definition) → OctetsAll us → readCommands T us ≡ ok ds → Reads (lastVariable i ds) (lastTermIn T i us)
-    unfolding readCommands lastTermIn
-    commands-read nil ds o e = subst (λ (k : List Definition). Reads (lastVariable i k) none) (ok-same e) no-variable
-    commands-read (cons t us) ds o e =
+    pair-reads : (t : Tree) (p : Option Pair) → PairView t p → (ds : List Definition) → Octets t → readPair T p ≡ ok ds → Reads (lastVariable i ds) (secondIn T i p)
+    pair-reads _ _ (p-pair {name = name} {t = t}) ds o e =
+        value-taken t (λ y. valueAs T (y .sort) t) (second-read t (o .1 .0)) (variableRow T name) ds (on-row T (T .variables) (variableRow T name) _ ds e)
+    pair-reads _ _ p-none ds o e = refuses e
+
+    part-reads : (form : Form) (t : Tree) (ds : List Definition) → Octets t → readPart T form t ≡ ok ds → Reads (lastVariable i ds) (termOf T i form t)
+    part-reads Form.Model t ds o e = command-reads t (command t) (command-view t) ds o e
+    part-reads Form.Values t ds o e = pair-reads t (pair t) (pair-view t) ds o e
+
+    pub parts-read : (form : Form) (us : Trees) (ds : List Definition) → OctetsAll us → readParts T form us ≡ ok ds → Reads (lastVariable i ds) (lastTermIn T i form us)
+    unfolding readParts lastTermIn
+    parts-read form nil ds o e = subst (λ (k : List Definition). Reads (lastVariable i k) none) (ok-same e) no-variable
+    parts-read form (cons t us) ds o e =
         let a = went _ _ ds e in
         let b = went _ _ ds (a .next) in
-        subst (λ (k : List Definition). Reads (lastVariable i k) (orElse (lastTermIn T i us) (termIn T i (command t)))) (ok-same (b .next))
+        subst (λ (k : List Definition). Reads (lastVariable i k) (orElse (lastTermIn T i form us) (termOf T i form t))) (ok-same (b .next))
         (rw (last-variable i (a .got) (b .got))
-        (reads-or (lastVariable i (b .got)) (lastVariable i (a .got)) (lastTermIn T i us) (termIn T i (command t))
-        (commands-read us (b .got) (o .1) (b .first)) (command-reads t (command t) (command-view t) (a .got) (o .0) (a .first))))
+        (reads-or (lastVariable i (b .got)) (lastVariable i (a .got)) (lastTermIn T i form us) (termOf T i form t)
+        (parts-read form us (b .got) (o .1) (b .first)) (part-reads form t (a .got) (o .0) (a .first))))
 
   -- a function's table is that of its body
   module _ (i : ℕ) (f : Function) (there : at (T .functions) i ≡ some f) where
@@ -141,10 +161,9 @@ module _ (T : Tables) where
     unfolding lastFunction
     one-function j t b g = by-test (eqb i j) (λ h. rw h (g h)) (λ h. rw h no-body)
 
-    value-matches : (sort t : Tree) (o : Option ℕ) (ds : List Definition) →
-        OnRow (T .variables) (λ j y. variableValue T y sort t >>= λ v. ok (isVariable j v)) o ds → Matches (lastFunction i ds) none
-    value-matches sort t _ _ skipped = no-function
-    value-matches sort t _ _ (taken {j = j} y d e m) =
+    value-matches : (rule : Variable → Result Value) (o : Option ℕ) (ds : List Definition) → OnRow (T .variables) (λ j y. rule y >>= λ v. ok (isVariable j v)) o ds → Matches (lastFunction i ds) none
+    value-matches rule _ _ skipped = no-function
+    value-matches rule _ _ (taken {j = j} y d e m) =
         let w = went _ _ d m in
         subst (λ (k : Definition). Matches (lastFunction i (k ∷ [])) none) (ok-same (w .next)) (of-variable j (w .got))
 
@@ -172,13 +191,13 @@ module _ (T : Tables) where
 
     command-matches : (t : Tree) (c : Command) → CommandView t c → (ds : List Definition) → Octets t → readCommand T c ≡ ok ds → Matches (lastFunction i ds) (bodyIn T i c)
     command-matches _ _ (c-variable {name = name} {sort = sort} {t = t}) ds o e =
-        value-matches sort t (variableRow T name) ds (on-row T (T .variables) (variableRow T name) _ ds e)
+        value-matches (λ y. variableValue T y sort t) (variableRow T name) ds (on-row T (T .variables) (variableRow T name) _ ds e)
     command-matches _ _ (c-function {name = name} {x = x} {argSort = argSort} {sort = sort} {body = body}) ds o e =
         table-matches x argSort sort body (functionRow T name) ds (o .1 .1 .1 .1 .0) (on-row T (T .functions) (functionRow T name) _ ds e)
     command-matches _ _ c-misshapen ds o e = refuses e
 
-    pub commands-match : (us : Trees) (ds : List Definition) → OctetsAll us → readCommands T us ≡ ok ds → Matches (lastFunction i ds) (lastBodyIn T i us)
-    unfolding readCommands lastBodyIn
+    pub commands-match : (us : Trees) (ds : List Definition) → OctetsAll us → readParts T Form.Model us ≡ ok ds → Matches (lastFunction i ds) (lastBodyIn T i us)
+    unfolding readParts lastBodyIn
     commands-match nil ds o e = subst (λ (k : List Definition). Matches (lastFunction i k) none) (ok-same e) no-function
     commands-match (cons t us) ds o e =
         let a = went _ _ ds e in
@@ -187,3 +206,32 @@ module _ (T : Tables) where
         (rw (last-function i (a .got) (b .got))
         (matches-or (lastFunction i (b .got)) (lastFunction i (a .got)) (lastBodyIn T i us) (bodyIn T i (command t))
         (commands-match us (b .got) (o .1) (b .first)) (command-matches t (command t) (command-view t) (a .got) (o .0) (a .first))))
+
+  -- pairs define no function
+  module _ (i : ℕ) where
+    no-table : lastFunction i [] ≡ none
+    unfolding lastFunction
+    no-table = refl
+
+    value-tableless : (j : ℕ) (v : Value) → lastFunction i (isVariable j v ∷ []) ≡ none
+    unfolding lastFunction
+    value-tableless j v = refl
+
+    row-tableless : (rule : Variable → Result Value) (o : Option ℕ) (ds : List Definition) → OnRow (T .variables) (λ j y. rule y >>= λ v. ok (isVariable j v)) o ds → lastFunction i ds ≡ none
+    row-tableless rule _ _ skipped = no-table
+    row-tableless rule _ _ (taken {j = j} y d e m) =
+        let w = went _ _ d m in
+        subst (λ (k : Definition). lastFunction i (k ∷ []) ≡ none) (ok-same (w .next)) (value-tableless j (w .got))
+
+    pair-tableless : (p : Option Pair) (ds : List Definition) → readPair T p ≡ ok ds → lastFunction i ds ≡ none
+    pair-tableless none ds e = refuses e
+    pair-tableless (some p) ds e = row-tableless (λ y. valueAs T (y .sort) (p .second)) (variableRow T (p .name)) ds (on-row T (T .variables) (variableRow T (p .name)) _ ds e)
+
+    pub pairs-tableless : (us : Trees) (ds : List Definition) → readParts T Form.Values us ≡ ok ds → lastFunction i ds ≡ none
+    unfolding readParts
+    pairs-tableless nil ds e = subst (λ (k : List Definition). lastFunction i k ≡ none) (ok-same e) no-table
+    pairs-tableless (cons t us) ds e =
+        let a = went _ _ ds e in
+        let b = went _ _ ds (a .next) in
+        subst (λ (k : List Definition). lastFunction i k ≡ none) (ok-same (b .next))
+        (last-function i (a .got) (b .got) ∙ ap₂ (λ (x y : Option Table). orElse x y) (pairs-tableless us (b .got) (b .first)) (pair-tableless (pair t) (a .got) (a .first)))

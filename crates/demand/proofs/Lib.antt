@@ -11,3 +11,4 @@ pub mod Premises
 pub mod Lines
 pub mod Listings
 pub mod Tells
+pub mod Without

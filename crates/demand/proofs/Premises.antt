@@ -30,7 +30,7 @@ use Rattle.values.specs.Value.{Value, vBool, vString, vEntity}
 use Rattle.literals.specs.Literal.{read}
 use Rattle.well_sorted.specs.Octets.{Octets}
 use Rattle.commands.specs.Command.{command, chain, tests, key}
-use Rattle.model.specs.Model.{armOf, Table, tableOf, isVariable, isFunction, readBody, readChain, readTests, readCommands, readModel}
+use Rattle.model.specs.Model.{armOf, Table, tableOf, isVariable, isFunction, readBody, readChain, readTests, readParts, readReply, readModel}
 use Rattle.model.specs.Listing.{settledTable}
 use Rattle.demand.specs.Examples.{of, word}
 use Rattle.demand.specs.Equal.{equal}
@@ -115,7 +115,7 @@ variable sort value = of (of (word "define-fun" ∷ word "v" ∷ of [] ∷ word 
 
 -- a member of a bool row, which lawful tables have not: a variable's value is not of its sort
 member-read : (lawful (tables "E" 0) ≡ false) × (readModel (tables "E" 0) (variable "Bool" (word "m")) ≡ ok (isVariable 0 (vEntity 0 (bytes "x")) ∷ []))
-unfolding lawful sortsRight all distinct any oneSymbol inSymbol classOf utf8 octets kept keptWords find at sameText sortRow memberRow variableRow shape sortShape _>>=_ unless readSort read command readCommands readModel
+unfolding lawful sortsRight all distinct any oneSymbol inSymbol classOf utf8 octets kept keptWords find at sameText sortRow memberRow variableRow shape sortShape _>>=_ unless readSort read command readParts readReply
 member-read = (refl, refl)
 
 member-unsorted : Sorted (tables "E" 0) 0 (vEntity 0 (bytes "x")) → ⊥
@@ -127,7 +127,7 @@ abbrev strings : Tables
 strings = record { sorts = string ∷ []; variables = record { name = bytes "v"; sort = 0 } ∷ []; functions = []; members = [] }
 
 string-read : (lawful strings ≡ true) × (readModel strings (variable "String" (quoted (0xFF ∷ []))) ≡ ok (isVariable 0 (vString (0xFF ∷ [])) ∷ []))
-unfolding lawful sortsRight all distinct any oneSymbol inSymbol classOf utf8 octets kept keptWords find at sameText sortRow variableRow shape sortShape _>>=_ unless readSort read command readCommands readModel
+unfolding lawful sortsRight all distinct any oneSymbol inSymbol classOf utf8 octets kept keptWords find at sameText sortRow variableRow shape sortShape _>>=_ unless readSort read command readParts readReply
 string-read = (refl, refl)
 
 string-unsorted : Sorted strings 0 (vString (0xFF ∷ [])) → ⊥
@@ -152,7 +152,7 @@ model = of (of (word "define-fun" ∷ word "f" ∷ of (of (word "a" ∷ word "Bo
 
 met : (lawful complete ≡ true) × (apart complete (bytes "a") ≡ true) × (noTwo complete (from 0 1) (record { argument = bytes "a"; term = body }) ≡ true)
     × (readModel complete model ≡ ok (isFunction 0 (tableOf (armOf (vBool true) (vEntity 1 (bytes "x")) ∷ []) (vEntity 1 (bytes "y"))) ∷ []))
-unfolding lawful sortsRight all distinct any find at oneSymbol inSymbol classOf utf8 octets kept keptWords sameText sortRow namedSort functionRow memberRow shape sortShape _>>=_ unless readSort normal read command chain tests key readChain readCommands readModel equal unbarred apart noTwo
+unfolding lawful sortsRight all distinct any find at oneSymbol inSymbol classOf utf8 octets kept keptWords sameText sortRow namedSort functionRow memberRow shape sortShape _>>=_ unless readSort normal read command chain tests key readChain readParts readReply equal unbarred apart noTwo
 met = (refl, refl, refl, refl)
 
 met-octets : Octets model

@@ -1,4 +1,4 @@
--- The bytes tell: two accepted models with one listing define the same.
+-- The bytes tell: two accepted replies with one listing define the same, whatever their forms.
 -- Assumes nothing.
 use mathlib.Core.Path.{_≡_, refl, sym, _∙_, subst}
 use mathlib.Core.Bool.{true}
@@ -16,7 +16,8 @@ use Rattle.values.specs.Value.{Value}
 use Rattle.values.proofs.Normals.{normal-fits}
 use Rattle.well_sorted.specs.Octets.{Octets}
 use Rattle.well_sorted.proofs.Results.{refuses}
-use Rattle.model.specs.Model.{Table, Definition, readModel, lastVariable, lastFunction}
+use Rattle.commands.specs.declared.form.Form.{Form}
+use Rattle.model.specs.Model.{Table, Definition, readReply, readModel, lastVariable, lastFunction}
 use Rattle.model.specs.Listing.{settledTable, settled, listing}
 use Rattle.model.proofs.Settled.{settled-function}
 use Rattle.model.proofs.Choices.{mapped}
@@ -27,7 +28,7 @@ use Rattle.demand.specs.Fits.{TableFits}
 use Rattle.demand.proofs.Tables.{body-fits}
 use Rattle.demand.proofs.Commands.{Matches, no-body, of-body, commands-match}
 use Rattle.demand.proofs.Settled.{arranged-settled}
-use Rattle.demand.proofs.Theorem.{third-demand}
+use Rattle.demand.proofs.Theorem.{first-demand, values-demand}
 use Rattle.demand.proofs.Listings.{FunctionFits, Fit, rendered-tell}
 
 module _ (T : Tables) (rules : lawful T ≡ true) where
@@ -46,7 +47,7 @@ module _ (T : Tables) (rules : lawful T ≡ true) where
         subst (FunctionFits T f) (some-one e) (settled-fits f t (body-fits T rules (b .argument) (f .argument) (f .result) (b .term) t o m))
 
     function-fits : (t : Tree) (ds : List Definition) → Octets t → readModel T t ≡ ok ds → (table : Table) → lastFunction i (map settled ds) ≡ some table → FunctionFits T f table
-    unfolding readModel
+    unfolding readReply
     function-fits (bitVec w n) ds o a table e = refuses a
     function-fits (numeral n) ds o a table e = refuses a
     function-fits (string s) ds o a table e = refuses a
@@ -58,14 +59,18 @@ module _ (T : Tables) (rules : lawful T ≡ true) where
   value-sorted x _ _ v OfVariable.undefined e = absurd (none-some e)
   value-sorted x _ _ v (OfVariable.defined h k) e = subst (Sorted T (x .sort)) (some-one e) h
 
-  model-fits : (t : Tree) (ds : List Definition) → Octets t → readModel T t ≡ ok ds → Fit T (map settled ds)
-  model-fits t ds o a =
+  reply-fits : (form : Form) (t : Tree) (ds : List Definition) → Octets t → readReply T form t ≡ ok ds → Fit T (map settled ds)
+  reply-fits form t ds o a =
       record {
-        variables = λ i x v there e. value-sorted x (lastTerm T i t) (lastVariable i (map settled ds)) v (third-demand T rules t ds o a .variables i x there) e;
-        functions = λ i f table there e. function-fits i f there t ds o a table e;
+        variables = λ i x v there e. value-sorted x (lastTerm T i form t) (lastVariable i (map settled ds)) v (first-demand T rules form t ds o a i x there) e;
+        functions = λ i f table there e. of-form form a i f table there e;
       }
+    where
+      of-form : (form : Form) → readReply T form t ≡ ok ds → (i : ℕ) (f : Function) (table : Table) → at (T .functions) i ≡ some f → lastFunction i (map settled ds) ≡ some table → FunctionFits T f table
+      of-form Form.Model a i f table there e = function-fits i f there t ds o a table e
+      of-form Form.Values a i f table there e = absurd (none-some (sym (values-demand T rules t ds o a .functions i) ∙ e))
 
-  pub bytes-tell : (t u : Tree) (ds es : List Definition) → Octets t → Octets u → readModel T t ≡ ok ds → readModel T u ≡ ok es →
+  pub bytes-tell : (form other : Form) (t u : Tree) (ds es : List Definition) → Octets t → Octets u → readReply T form t ≡ ok ds → readReply T other u ≡ ok es →
       listing T ds ≡ listing T es → Alike T (map settled ds) (map settled es)
   unfolding listing
-  bytes-tell t u ds es o p a b e = rendered-tell T rules (map settled ds) (map settled es) (model-fits t ds o a) (model-fits u es p b) e
+  bytes-tell form other t u ds es o p a b e = rendered-tell T rules (map settled ds) (map settled es) (reply-fits form t ds o a) (reply-fits other u es p b) e

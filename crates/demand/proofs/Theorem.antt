@@ -1,4 +1,4 @@
--- Demand 3, of every accepted model.
+-- Demand 3, of every accepted model, and its first sentence, of every accepted reply to get-value.
 -- Assumes nothing.
 use mathlib.Core.Path.{_≡_, refl, ap, sym, _∙_, subst}
 use mathlib.Core.Bool.{true}
@@ -19,22 +19,23 @@ use Rattle.values.proofs.Tells.{tells}
 use Rattle.well_sorted.specs.Octets.{Octets, OctetsAll}
 use Rattle.well_sorted.proofs.Results.{refuses, passed}
 use Rattle.well_sorted.proofs.Sound.{sound-octets}
+use Rattle.commands.specs.declared.form.Form.{Form}
 use Rattle.commands.specs.Command.{tests}
-use Rattle.model.specs.Model.{Table, Definition, bodyBy, readBody, readCommands, readModel, lastVariable, lastFunction}
+use Rattle.model.specs.Model.{Table, Definition, bodyBy, readBody, readParts, readReply, readModel, readValues, lastVariable, lastFunction}
 use Rattle.model.specs.Listing.{settledTable, settled}
 use Rattle.model.proofs.Settled.{settled-variable, settled-function}
 use Rattle.model.proofs.Choices.{mapped}
 use Rattle.demand.specs.Meaning.{valueOf, meaning}
 use Rattle.demand.specs.Lookup.{lookup}
-use Rattle.demand.specs.Last.{Body, lastTermIn, lastBodyIn}
+use Rattle.demand.specs.Last.{Body, lastTermIn, lastBodyIn, lastBody}
 use Rattle.demand.specs.Premise.{apart, sameKey, noTwo}
-use Rattle.demand.specs.Demand.{Sorted, OfVariable, OfFunction, Demand}
+use Rattle.demand.specs.Demand.{Sorted, OfVariable, OfFunction, First, Demand, Valued}
 use Rattle.demand.proofs.Looks.{lastHit, firstHit, lookup-arranged, last-first, last-first-one}
 use Rattle.demand.proofs.Literals.{literal-means}
 use Rattle.demand.proofs.Bodies.{body-first, tests-give}
 use Rattle.demand.specs.Fits.{TableFits}
 use Rattle.demand.proofs.Tables.{read-at, body-fits}
-use Rattle.demand.proofs.Commands.{Reads, no-term, of-term, commands-read, Matches, no-body, of-body, commands-match}
+use Rattle.demand.proofs.Commands.{Reads, no-term, of-term, parts-read, Matches, no-body, of-body, commands-match, pairs-tableless}
 use Rattle.demand.proofs.Settled.{every-settled, one-value}
 
 module _ (T : Tables) (rules : lawful T ≡ true) where
@@ -78,23 +79,46 @@ module _ (T : Tables) (rules : lawful T ≡ true) where
         means = λ name two v. table-means f b t v m o name two;
       })
 
-  of-commands : (us : Trees) (ds : List Definition) → OctetsAll us → readCommands T us ≡ ok ds → Demand T (app us) (map settled ds)
-  of-commands us ds o e =
-      record {
-        variables = λ i x there.
-            subst (OfVariable T x (lastTermIn T i us)) (sym (settled-variable i ds)) (of-variable i x there (lastVariable i ds) (lastTermIn T i us) (commands-read T i x there us ds o e));
-        functions = λ i f there.
-            subst (OfFunction T f (lastBodyIn T i us)) (sym (settled-function i ds)) (of-function i f there (lastFunction i ds) (lastBodyIn T i us) (commands-match T i f there us ds o e));
-      }
+  of-parts : (form : Form) (us : Trees) (ds : List Definition) → OctetsAll us → readParts T form us ≡ ok ds → First T form (app us) (map settled ds)
+  of-parts form us ds o e i x there =
+      subst (OfVariable T x (lastTermIn T i form us)) (sym (settled-variable i ds)) (of-variable i x there (lastVariable i ds) (lastTermIn T i form us) (parts-read T i x there form us ds o e))
+
+  -- its first sentence, of either form
+  pub first-demand : (form : Form) (t : Tree) (ds : List Definition) → Octets t → readReply T form t ≡ ok ds → First T form t (map settled ds)
+  unfolding readReply
+  first-demand form (bitVec w n) ds o e = refuses e
+  first-demand form (numeral n) ds o e = refuses e
+  first-demand form (string s) ds o e = refuses e
+  first-demand form (symbol s) ds o e = refuses e
+  first-demand form (app us) ds o e = of-parts form us ds o e
+
+  of-functions : (i : ℕ) (f : Function) → at (T .functions) i ≡ some f → (t : Tree) (ds : List Definition) → Octets t → readModel T t ≡ ok ds → OfFunction T f (lastBody T i t) (lastFunction i (map settled ds))
+  unfolding readReply
+  of-functions i f there (bitVec w n) ds o e = refuses e
+  of-functions i f there (numeral n) ds o e = refuses e
+  of-functions i f there (string s) ds o e = refuses e
+  of-functions i f there (symbol s) ds o e = refuses e
+  of-functions i f there (app us) ds o e =
+      subst (OfFunction T f (lastBodyIn T i us)) (sym (settled-function i ds)) (of-function i f there (lastFunction i ds) (lastBodyIn T i us) (commands-match T i f there us ds o e))
 
   pub third-demand : (t : Tree) (ds : List Definition) → Octets t → readModel T t ≡ ok ds → Demand T t (map settled ds)
-  unfolding readModel
-  third-demand (bitVec w n) ds o e = refuses e
-  third-demand (numeral n) ds o e = refuses e
-  third-demand (string s) ds o e = refuses e
-  third-demand (symbol s) ds o e = refuses e
-  third-demand (app us) ds o e = of-commands us ds o e
+  third-demand t ds o e = record { variables = first-demand Form.Model t ds o e; functions = λ i f there. of-functions i f there t ds o e }
+
+  -- R-1
+  no-functions : (i : ℕ) (t : Tree) (ds : List Definition) → readValues T t ≡ ok ds → lastFunction i (map settled ds) ≡ none
+  unfolding readReply
+  no-functions i (bitVec w n) ds e = refuses e
+  no-functions i (numeral n) ds e = refuses e
+  no-functions i (string s) ds e = refuses e
+  no-functions i (symbol s) ds e = refuses e
+  no-functions i (app us) ds e = settled-function i ds ∙ ap (mapped settledTable) (pairs-tableless T i us ds e)
+
+  pub values-demand : (t : Tree) (ds : List Definition) → Octets t → readValues T t ≡ ok ds → Valued T t (map settled ds)
+  values-demand t ds o e = record { variables = first-demand Form.Values t ds o e; functions = λ i. no-functions i t ds e }
 
   -- of a tree that stands in an arena
   pub third-demand-sound : (t : Tree) (ds : List Definition) → Sound t → readModel T t ≡ ok ds → Demand T t (map settled ds)
   third-demand-sound t ds s e = third-demand t ds (sound-octets t s) e
+
+  pub values-demand-sound : (t : Tree) (ds : List Definition) → Sound t → readValues T t ≡ ok ds → Valued T t (map settled ds)
+  values-demand-sound t ds s e = values-demand t ds (sound-octets t s) e
