@@ -12,30 +12,41 @@ use Rattle.refusals.specs.declared.Refusal.{Refusal}
 use Rattle.lent.specs.declared.Written.the-variants.{Length, Refused}
 use Rattle.lent.specs.Left.{Left, Leaves}
 use Rattle.arena.specs.Arena.{Arena}
-use Rattle.arena.specs.Tree.{Tree}
+use Rattle.arena.specs.Tree.{Tree, Sound}
 use Rattle.tables.specs.Layout.{Lent, tablesOf}
 use Rattle.tables.specs.Rules.{lawful}
+use Rattle.tables.specs.Sort.{Tables}
 use Rattle.sorts.specs.Result.{Result, ok, refused}
 use Rattle.well_sorted.proofs.Sound.{sound-octets}
-use Rattle.model.specs.Model.{Definition, readModel}
+use Rattle.commands.specs.declared.form.Form.{Form}
+use Rattle.model.specs.Model.{Definition, readReply}
 use Rattle.model.specs.Listing.{settled, listing, need}
 use Rattle.demand.specs.Alike.{Alike}
-use Rattle.demand.specs.Demand.{Demand}
+use Rattle.demand.specs.Demand.{Demand, Valued}
 use Rattle.demand.proofs.Tells.{bytes-tell}
-use Rattle.demand.proofs.Theorem.{third-demand-sound}
+use Rattle.demand.proofs.Theorem.{third-demand-sound, values-demand-sound}
 use Rattle.listing.specs.Lists.{fitted, left, Lists, bad-table, bad-arena, walked}
 use Rattle.listing.proofs.Wholes.{fits, short, passes-rules}
 
--- the model that the words and the text hold, what it defines, and its listing at the front
-pub record Listed (l : Lent) (ws ts : List ℕ) (n : ℕ) (exit : List ℕ) : Type 0 where
+-- what demand 3 says, by the reply's form
+abbrev pub Demanded : Form → Tables → Tree → List Definition → Type 0
+Demanded Form.Model T t ds = Demand T t ds
+Demanded Form.Values T t ds = Valued T t ds
+
+demanded : (form : Form) (T : Tables) → lawful T ≡ true → (t : Tree) (ds : List Definition) → Sound t → readReply T form t ≡ ok ds → Demanded form T t (map settled ds)
+demanded Form.Model T rules t ds s e = third-demand-sound T rules t ds s e
+demanded Form.Values T rules t ds s e = values-demand-sound T rules t ds s e
+
+-- the reply that the words and the text hold, what it defines, and its listing at the front
+pub record Listed (form : Form) (l : Lent) (ws ts : List ℕ) (n : ℕ) (exit : List ℕ) : Type 0 where
   pub rules : lawful (tablesOf l) ≡ true
   pub tree : Tree
   pub definitions : List Definition
   pub arena : Arena ws ts tree
-  pub reads : readModel (tablesOf l) tree ≡ ok definitions
+  pub reads : readReply (tablesOf l) form tree ≡ ok definitions
   pub front : take n exit ≡ listing (tablesOf l) definitions
   pub long : n ≡ length (listing (tablesOf l) definitions)
-  pub demand : Demand (tablesOf l) tree (map settled definitions)
+  pub demand : Demanded form (tablesOf l) tree (map settled definitions)
 
 pub no-length : {R : Type 0} {n : ℕ} {why : Refusal} → Length n ≡ Refused why → R
 no-length e = let z : _≡_ {A = ℕ} 0 1 = cc in absurd (omega arith)
@@ -51,12 +62,12 @@ fronted lines room out n exit h =
     let f : exit ≡ lines ++ (replicate (room - length lines) 0 ++ drop room out) = h .holds ∙ ap (λ (x : Left). x .holds) (fits lines room out k) in
     (m, ap (take n) f ∙ take-at lines (replicate (room - length lines) 0 ++ drop room out) n (sym m)))
 
-pub listed-demand : (l : Lent) (ws ts entry : List ℕ) (n : ℕ) (exit : List ℕ) → Lists l ws ts entry (Length n) exit → Listed l ws ts n exit
-listed-demand l ws ts entry n exit (bad-table p h) = no-length (h .answers)
-listed-demand l ws ts entry n exit (bad-arena p f h) = no-length (h .answers)
-listed-demand l ws ts entry n exit (walked p t a h) = go (readModel (tablesOf l) t) refl h
+pub listed-demand : (form : Form) (l : Lent) (ws ts entry : List ℕ) (n : ℕ) (exit : List ℕ) → Lists form l ws ts entry (Length n) exit → Listed form l ws ts n exit
+listed-demand form l ws ts entry n exit (bad-table p h) = no-length (h .answers)
+listed-demand form l ws ts entry n exit (bad-arena p f h) = no-length (h .answers)
+listed-demand form l ws ts entry n exit (walked p t a h) = go (readReply (tablesOf l) form t) refl h
   where
-    go : (m : Result (List Definition)) → readModel (tablesOf l) t ≡ m → Leaves (left (tablesOf l) m entry) (Length n) exit → Listed l ws ts n exit
+    go : (m : Result (List Definition)) → readReply (tablesOf l) form t ≡ m → Leaves (left (tablesOf l) m entry) (Length n) exit → Listed form l ws ts n exit
     go (ok ds) e k =
         let g = fronted (listing (tablesOf l) ds) (need (tablesOf l) ds) entry n exit k in
         record {
@@ -67,13 +78,13 @@ listed-demand l ws ts entry n exit (walked p t a h) = go (readModel (tablesOf l)
           reads = e;
           front = g .1;
           long = g .0;
-          demand = third-demand-sound (tablesOf l) (passes-rules l p) t ds (a .sound) e;
+          demand = demanded form (tablesOf l) (passes-rules l p) t ds (a .sound) e;
         }
     go (refused z) e k = no-length (k .answers)
 
--- the bytes tell: what two calls over the same tables list alike, they define alike
-pub listed-tell : {l : Lent} {ws ts ws′ ts′ exit exit′ : List ℕ} {n m : ℕ} (a : Listed l ws ts n exit) (b : Listed l ws′ ts′ m exit′) → take n exit ≡ take m exit′ →
+-- the bytes tell: what two calls over the same tables list alike, they define alike, whatever the forms
+pub listed-tell : {form other : Form} {l : Lent} {ws ts ws′ ts′ exit exit′ : List ℕ} {n m : ℕ} (a : Listed form l ws ts n exit) (b : Listed other l ws′ ts′ m exit′) → take n exit ≡ take m exit′ →
     Alike (tablesOf l) (map settled (a .definitions)) (map settled (b .definitions))
-listed-tell {l} a b e =
-    bytes-tell (tablesOf l) (a .rules) (a .tree) (b .tree) (a .definitions) (b .definitions) (sound-octets (a .tree) (a .arena .sound)) (sound-octets (b .tree) (b .arena .sound))
+listed-tell {form} {other} {l} a b e =
+    bytes-tell (tablesOf l) (a .rules) form other (a .tree) (b .tree) (a .definitions) (b .definitions) (sound-octets (a .tree) (a .arena .sound)) (sound-octets (b .tree) (b .arena .sound))
     (a .reads) (b .reads) (sym (a .front) ∙ e ∙ b .front)

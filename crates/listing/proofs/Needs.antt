@@ -31,8 +31,10 @@ use Rattle.sorts.specs.Sort.{readSort, levels}
 use Rattle.literals.specs.Literal.{read}
 use Rattle.well_sorted.proofs.Plain.{Plain, plain-then, plain-unless, plain-found, sort-plain, read-plain}
 use Rattle.well_sorted.proofs.Results.{refuses, ok-same}
+use Rattle.commands.specs.declared.form.Form.{Form}
+use Rattle.commands.specs.Pair.{Pair, pair}
 use Rattle.commands.specs.Command.{Command, variable, function, misshapen, command, Chain, default, arm, chain, tests, key}
-use Rattle.model.specs.Model.{Definition, isBool, readChain, readTests, bodyBy, variableValue, functionTable, onRow, readCommand, readCommands, readModel}
+use Rattle.model.specs.Model.{Definition, isBool, readChain, readTests, bodyBy, valueAs, variableValue, functionTable, onRow, readCommand, readPair, readPart, readParts, readReply}
 use Rattle.model.specs.Listing.{variableCount, functionCount, listing, need}
 use Rattle.walk.specs.Placed.{Placed, its, placed}
 use Rattle.walk.proofs.Places.{placed-read}
@@ -41,7 +43,7 @@ use Rattle.listing.specs.Line.{header}
 use Rattle.listing.specs.Grounds.{Grounded}
 use Rattle.listing.specs.Entries.{entries}
 use Rattle.listing.proofs.Folds.{sums-most, length-texts}
-use Rattle.listing.proofs.Readings.{commands-grounded}
+use Rattle.listing.proofs.Readings.{parts-grounded}
 use Rattle.listing.proofs.Rows.{many, many-few, entryOf, entries-are}
 use Rattle.listing.proofs.Sizes.{header-small}
 use Rattle.listing.proofs.Tallies.{most, entry-short}
@@ -74,11 +76,13 @@ module _ (T : Tables) where
     body-plain body none = chain-plain (chain body)
     body-plain body (some us) = plain-unless (isBool (at (T .sorts) result)) UnmatchedType _ refl (tests-plain us)
 
-  value-plain : (v : Variable) (sort t : Tree) → Plain (variableValue T v sort t)
-  value-plain v sort t =
+  value-plain : (row : ℕ) (t : Tree) → Plain (valueAs T row t)
+  value-plain row t = plain-then (read T levels (some row) t) _ (read-plain T levels (some row) t) (λ l. plain-unless (eqb (l .row) row) UnmatchedType _ refl tt)
+
+  variable-plain : (v : Variable) (sort t : Tree) → Plain (variableValue T v sort t)
+  variable-plain v sort t =
       plain-then (readSort T levels sort) _ (sort-plain T levels sort)
-      (λ row. plain-then (read T levels (some row) t) _ (read-plain T levels (some row) t)
-      (λ l. plain-unless (eqb (l .row) row) UnmatchedType _ refl (plain-unless (eqb (v .sort) row) UnmatchedType _ refl tt)))
+      (λ row. plain-then (valueAs T row t) _ (value-plain row t) (λ x. plain-unless (eqb (v .sort) row) UnmatchedType _ refl tt))
 
   table-plain : (f : Function) (x : List ℕ) (argSort sort body : Tree) → Plain (functionTable T f x argSort sort body)
   table-plain f x argSort sort body =
@@ -94,24 +98,33 @@ module _ (T : Tables) where
 
   command-plain : (c : Command) → Plain (readCommand T c)
   command-plain (variable name sort t) =
-      on-row-plain (T .variables) (variableFound T name) _ (λ i v. plain-then (variableValue T v sort t) _ (value-plain v sort t) (λ x. tt))
+      on-row-plain (T .variables) (variableFound T name) _ (λ i v. plain-then (variableValue T v sort t) _ (variable-plain v sort t) (λ x. tt))
   command-plain (function name x argSort sort body) =
       on-row-plain (T .functions) (functionFound T name) _ (λ i f. plain-then (functionTable T f x argSort sort body) _ (table-plain f x argSort sort body) (λ table. tt))
   command-plain misshapen = refl
 
-  commands-plain : (us : Trees) → Plain (readCommands T us)
-  unfolding readCommands
-  commands-plain nil = tt
-  commands-plain (cons t us) =
-      plain-then (readCommand T (command t)) _ (command-plain (command t)) (λ ds. plain-then (readCommands T us) _ (commands-plain us) (λ es. tt))
+  pair-plain : (p : Option Pair) → Plain (readPair T p)
+  pair-plain none = refl
+  pair-plain (some p) =
+      on-row-plain (T .variables) (variableFound T (p .name)) _ (λ i v. plain-then (valueAs T (v .sort) (p .second)) _ (value-plain (v .sort) (p .second)) (λ x. tt))
 
-  model-plain : (t : Tree) → Plain (readModel T t)
-  unfolding readModel
-  model-plain (bitVec w n) = refl
-  model-plain (numeral n) = refl
-  model-plain (string s) = refl
-  model-plain (symbol s) = refl
-  model-plain (app us) = commands-plain us
+  part-plain : (form : Form) (t : Tree) → Plain (readPart T form t)
+  part-plain Form.Model t = command-plain (command t)
+  part-plain Form.Values t = pair-plain (pair t)
+
+  module _ (form : Form) where
+    parts-plain : (us : Trees) → Plain (readParts T form us)
+    unfolding readParts
+    parts-plain nil = tt
+    parts-plain (cons t us) = plain-then (readPart T form t) _ (part-plain form t) (λ ds. plain-then (readParts T form us) _ (parts-plain us) (λ es. tt))
+
+    reply-plain : (t : Tree) → Plain (readReply T form t)
+    unfolding readReply
+    reply-plain (bitVec w n) = refl
+    reply-plain (numeral n) = refl
+    reply-plain (string s) = refl
+    reply-plain (symbol s) = refl
+    reply-plain (app us) = parts-plain us
 
 -- the need of what stands in an arena
 need-small : (l : Lent) (ws ts : List ℕ) → lawful (tablesOf l) ≡ true → (ps : List Placed) → Every (Grounded l ws ts) ps → need (tablesOf l) (its ps) < 2 ^ 56
@@ -128,22 +141,22 @@ need-small l ws ts rules ps gs =
     mul-mono : (n : ℕ) → n ≤ 2048 → n * most ≤ 18014398509481984
     mul-mono n h = omega arith
 
-model-small : (l : Lent) (ws ts : List ℕ) → passes l ≡ true → (t : Tree) (ds : List Definition) → Arena ws ts t → readModel (tablesOf l) t ≡ ok ds → need (tablesOf l) ds < 2 ^ 56
-unfolding readModel _>>=_
-model-small l ws ts p (bitVec w n) ds a e = refuses e
-model-small l ws ts p (numeral n) ds a e = refuses e
-model-small l ws ts p (string r) ds a e = refuses e
-model-small l ws ts p (symbol r) ds a e = refuses e
-model-small l ws ts p (app us) ds a e = go (placed (tablesOf l) 1 us) refl
+reply-small : (form : Form) (l : Lent) (ws ts : List ℕ) → passes l ≡ true → (t : Tree) (ds : List Definition) → Arena ws ts t → readReply (tablesOf l) form t ≡ ok ds → need (tablesOf l) ds < 2 ^ 56
+unfolding readReply _>>=_
+reply-small form l ws ts p (bitVec w n) ds a e = refuses e
+reply-small form l ws ts p (numeral n) ds a e = refuses e
+reply-small form l ws ts p (string r) ds a e = refuses e
+reply-small form l ws ts p (symbol r) ds a e = refuses e
+reply-small form l ws ts p (app us) ds a e = go (placed (tablesOf l) form 1 us) refl
   where
     stood : StandingAll us ws ts 1 (many-of us)
     stood = let s = arena-stands ws ts (app us) a in record { next = nodes (app us); from = 0; rest = length (treeText (app us)); there = s .children; many-are = refl }
 
-    go : (m : Result (List Placed)) → placed (tablesOf l) 1 us ≡ m → need (tablesOf l) ds < 2 ^ 56
+    go : (m : Result (List Placed)) → placed (tablesOf l) form 1 us ≡ m → need (tablesOf l) ds < 2 ^ 56
     go (ok ps) z =
-        let k : ok (its ps) ≡ ok ds = sym (ap (λ (x : Result (List Placed)). x >>= λ qs. ok (its qs)) z) ∙ placed-read (tablesOf l) 1 us ∙ e in
-        subst (λ (es : List Definition). need (tablesOf l) es < 2 ^ 56) (ok-same k) (need-small l ws ts (passes-rules l p) ps (commands-grounded l ws ts us (many-of us) stood (sure-of l ws ts us p a) ps z))
-    go (refused r) z = let k : refused r ≡ ok ds = sym (ap (λ (x : Result (List Placed)). x >>= λ qs. ok (its qs)) z) ∙ placed-read (tablesOf l) 1 us ∙ e in refuses k
+        let k : ok (its ps) ≡ ok ds = sym (ap (λ (x : Result (List Placed)). x >>= λ qs. ok (its qs)) z) ∙ placed-read (tablesOf l) form 1 us ∙ e in
+        subst (λ (es : List Definition). need (tablesOf l) es < 2 ^ 56) (ok-same k) (need-small l ws ts (passes-rules l p) ps (parts-grounded form l ws ts us (many-of us) stood (sure-of l ws ts us p a) ps z))
+    go (refused r) z = let k : refused r ≡ ok ds = sym (ap (λ (x : Result (List Placed)). x >>= λ qs. ok (its qs)) z) ∙ placed-read (tablesOf l) form 1 us ∙ e in refuses k
 
 -- what is told
 told-so : {why : Refusal} {s : Written} → Refused why ≡ s → (P : Written → Type 0) → P s → P (Refused why)
@@ -153,18 +166,18 @@ abbrev Told : Written → Type 0
 Told (Length n) = Unit {0}
 Told (Refused why) = detailOf why < 2 ^ 56
 
-pub listing-told : (l : Lent) (ws ts entry : List ℕ) (why : Refusal) (exit : List ℕ) → Lists l ws ts entry (Refused why) exit → detailOf why < 2 ^ 56
-listing-told l ws ts entry why exit (bad-table p h) = told-so (h .answers) Told (omega arith)
-listing-told l ws ts entry why exit (bad-arena p f h) = told-so (h .answers) Told (omega arith)
-listing-told l ws ts entry why exit (walked p t a h) = go (readModel (tablesOf l) t) refl h
+pub listing-told : (form : Form) (l : Lent) (ws ts entry : List ℕ) (why : Refusal) (exit : List ℕ) → Lists form l ws ts entry (Refused why) exit → detailOf why < 2 ^ 56
+listing-told form l ws ts entry why exit (bad-table p h) = told-so (h .answers) Told (omega arith)
+listing-told form l ws ts entry why exit (bad-arena p f h) = told-so (h .answers) Told (omega arith)
+listing-told form l ws ts entry why exit (walked p t a h) = go (readReply (tablesOf l) form t) refl h
   where
-    go : (m : Result (List Definition)) → readModel (tablesOf l) t ≡ m → Leaves (left (tablesOf l) m entry) (Refused why) exit → detailOf why < 2 ^ 56
+    go : (m : Result (List Definition)) → readReply (tablesOf l) form t ≡ m → Leaves (left (tablesOf l) m entry) (Refused why) exit → detailOf why < 2 ^ 56
     go (ok ds) e k =
-        let small = model-small l ws ts p t ds a e in
+        let small = reply-small form l ws ts p t ds a e in
         told-so (k .answers) Told
         (by-order (length entry) (need (tablesOf l) ds)
         (λ h. subst (λ (x : Left). Told (x .answer)) (sym (short (listing (tablesOf l) ds) (need (tablesOf l) ds) entry h)) small)
         (λ h. subst (λ (x : Left). Told (x .answer)) (sym (fits (listing (tablesOf l) ds) (need (tablesOf l) ds) entry h)) tt))
     go (refused r) e k =
-        let q = subst Plain e (model-plain (tablesOf l) t) in
+        let q = subst Plain e (reply-plain (tablesOf l) form t) in
         told-so (k .answers) Told (omega (arith, q))

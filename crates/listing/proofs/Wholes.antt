@@ -37,7 +37,8 @@ use Rattle.well_sorted.proofs.Sound.{sound-octets}
 use Rattle.value_text.specs.Laid.{Lays}
 use Rattle.value_text.specs.Wrote.{Wrote}
 use Rattle.value_text.proofs.Lays.{lays-then, lays-put, lays-as, wrote-front}
-use Rattle.model.specs.Model.{Definition, readCommands, readModel}
+use Rattle.commands.specs.declared.form.Form.{Form}
+use Rattle.model.specs.Model.{Definition, readParts, readReply}
 use Rattle.model.specs.Listing.{line, settled, variableCount, functionCount, rendered, listing, need}
 use Rattle.walk.specs.declared.walk.Walked.{Walked}
 use Rattle.walk.specs.Last.{slots, stride}
@@ -50,8 +51,8 @@ use Rattle.listing.specs.Line.{header}
 use Rattle.listing.specs.Grounds.{Known}
 use Rattle.listing.specs.Entries.{entries, LaysEntries}
 use Rattle.listing.specs.Tally.{Tallied}
-use Rattle.listing.specs.Stages.{Sure, Zeroed, FinishesOf, Commanded, Modelled, Stored}
-use Rattle.listing.proofs.Readings.{commands-grounded}
+use Rattle.listing.specs.Stages.{Sure, Zeroed, FinishesOf, Parted, Replied, Stored}
+use Rattle.listing.proofs.Readings.{parts-grounded}
 use Rattle.listing.proofs.Rows.{same-variables, same-functions}
 use Rattle.listing.proofs.Sizes.{header-small}
 
@@ -144,32 +145,32 @@ module _ (l : Lent) (ws ts last out : List ℕ) (s : Tally) (tallied : (ps : Lis
           let w = laid-whole ps known k (all-laid ps known p q) in
           enough-room (listing (tablesOf l) (its ps)) (need (tablesOf l) (its ps)) out sum end d exit (exact ps known) k (w .1) (w .0) z
 
--- the commands
-module _ (l : Lent) (ws ts : List ℕ) (many : ℕ) (last last′ entry : List ℕ) (w : Walked) (walks : Walks l ws ts 1 many last last′ w) where
-  -- what is left by the commands, by what they define with their nodes
-  commands-left : (us : Trees) (m : Result (List Placed)) → placed (tablesOf l) 1 us ≡ m → (r : Written) (exit : List ℕ) →
-      Leaves (left (tablesOf l) (m >>= λ ps. ok (its ps)) entry) r exit → Leaves (left (tablesOf l) (readCommands (tablesOf l) us) entry) r exit
-  commands-left us m e r exit h =
-      subst (λ (x : Result (List Definition)). Leaves (left (tablesOf l) x entry) r exit) (sym (ap (λ (x : Result (List Placed)). x >>= λ ps. ok (its ps)) e) ∙ placed-read (tablesOf l) 1 us) h
+-- the parts
+module _ (form : Form) (l : Lent) (ws ts : List ℕ) (many : ℕ) (last last′ entry : List ℕ) (w : Walked) (walks : Walks form l ws ts 1 many last last′ w) where
+  -- what is left by the parts, by what they define with their nodes
+  parts-left : (us : Trees) (m : Result (List Placed)) → placed (tablesOf l) form 1 us ≡ m → (r : Written) (exit : List ℕ) →
+      Leaves (left (tablesOf l) (m >>= λ ps. ok (its ps)) entry) r exit → Leaves (left (tablesOf l) (readParts (tablesOf l) form us) entry) r exit
+  parts-left us m e r exit h =
+      subst (λ (x : Result (List Definition)). Leaves (left (tablesOf l) x entry) r exit) (sym (ap (λ (x : Result (List Placed)). x >>= λ ps. ok (its ps)) e) ∙ placed-read (tablesOf l) form 1 us) h
 
-  pub commands-done : w ≡ Walked.Done → (r : Written) (exit : List ℕ) → FinishesOf l ws ts last′ entry r exit → Commanded l ws ts many last entry r exit
+  pub parts-done : w ≡ Walked.Done → (r : Written) (exit : List ℕ) → FinishesOf l ws ts last′ entry r exit → Parted form l ws ts many last entry r exit
   unfolding _>>=_
-  commands-done e r exit f us s sure q = go (placed (tablesOf l) 1 us) refl (walks us s (sure .rules) q)
+  parts-done e r exit f us s sure q = go (placed (tablesOf l) form 1 us) refl (walks us s (sure .rules) q)
     where
-      go : (m : Result (List Placed)) → placed (tablesOf l) 1 us ≡ m → WalkedAs l m last′ w → Leaves (left (tablesOf l) (readCommands (tablesOf l) us) entry) r exit
-      go (ok ps) z h = commands-left us (ok ps) z r exit (f ps (record { rules = sure .rules; kept = h .1; grounded = commands-grounded l ws ts us many s sure ps z }))
+      go : (m : Result (List Placed)) → placed (tablesOf l) form 1 us ≡ m → WalkedAs l m last′ w → Leaves (left (tablesOf l) (readParts (tablesOf l) form us) entry) r exit
+      go (ok ps) z h = parts-left us (ok ps) z r exit (f ps (record { rules = sure .rules; kept = h .1; grounded = parts-grounded form l ws ts us many s sure ps z }))
       go (refused y) z h = let g : Walked.Done ≡ Walked.Refused y = sym e ∙ h in let c : _≡_ {A = ℕ} 0 1 = cc in absurd (omega arith)
 
-  pub commands-refused : (z : Refusal) → w ≡ Walked.Refused z → Commanded l ws ts many last entry (Refused z) entry
+  pub parts-refused : (z : Refusal) → w ≡ Walked.Refused z → Parted form l ws ts many last entry (Refused z) entry
   unfolding _>>=_
-  commands-refused z e us s sure q = go (placed (tablesOf l) 1 us) refl (walks us s (sure .rules) q)
+  parts-refused z e us s sure q = go (placed (tablesOf l) form 1 us) refl (walks us s (sure .rules) q)
     where
-      go : (m : Result (List Placed)) → placed (tablesOf l) 1 us ≡ m → WalkedAs l m last′ w → Leaves (left (tablesOf l) (readCommands (tablesOf l) us) entry) (Refused z) entry
+      go : (m : Result (List Placed)) → placed (tablesOf l) form 1 us ≡ m → WalkedAs l m last′ w → Leaves (left (tablesOf l) (readParts (tablesOf l) form us) entry) (Refused z) entry
       go (ok ps) x h = let g : Walked.Done ≡ Walked.Refused z = sym (h .0) ∙ e in let c : _≡_ {A = ℕ} 0 1 = cc in absurd (omega arith)
       go (refused y) x h =
           let g : Walked.Refused z ≡ Walked.Refused y = sym e ∙ h in
           let k : z ≡ y = cc in
-          commands-left us (refused y) x (Refused z) entry (record { answers = ap Refused k; holds = refl })
+          parts-left us (refused y) x (Refused z) entry (record { answers = ap Refused k; holds = refl })
 
 -- the root
 pub passes-rules : (l : Lent) → passes l ≡ true → lawful (tablesOf l) ≡ true
@@ -183,44 +184,44 @@ module _ (l : Lent) (ws ts : List ℕ) where
   pub sure-of : (us : Trees) → passes l ≡ true → Arena ws ts (app us) → Sure l us
   sure-of us p a = record { rules = passes-rules l p; octets = sound-octets (app us) (a .sound); few = omega (arith, a .few); short = a .short }
 
-module _ (l : Lent) (ws ts last entry : List ℕ) (list : Parts) (found : PartsAt ws 0 list) where
-  of-app : (us : Trees) (r : Written) (exit : List ℕ) → Leaves (left (tablesOf l) (readCommands (tablesOf l) us) entry) r exit → Leaves (left (tablesOf l) (readModel (tablesOf l) (app us)) entry) r exit
-  unfolding readModel
+module _ (form : Form) (l : Lent) (ws ts last entry : List ℕ) (list : Parts) (found : PartsAt ws 0 list) where
+  of-app : (us : Trees) (r : Written) (exit : List ℕ) → Leaves (left (tablesOf l) (readParts (tablesOf l) form us) entry) r exit → Leaves (left (tablesOf l) (readReply (tablesOf l) form (app us)) entry) r exit
+  unfolding readReply
   of-app us r exit h = h
 
-  pub model-listed : (many : ℕ) → list ≡ Parts.Children many → (r : Written) (exit : List ℕ) → Commanded l ws ts many last entry r exit → Modelled l ws ts last entry r exit
-  model-listed many e r exit f t p a q =
+  pub reply-listed : (many : ℕ) → list ≡ Parts.Children many → (r : Written) (exit : List ℕ) → Parted form l ws ts many last entry r exit → Replied form l ws ts last entry r exit
+  reply-listed many e r exit f t p a q =
       let k = subst (PartsAt ws 0) e found .1 ts t (stood l ws ts t a) in
       let g : t ≡ app (k .0) = k .1 in
-      subst (λ (x : Tree). Leaves (left (tablesOf l) (readModel (tablesOf l) x) entry) r exit) (sym g)
+      subst (λ (x : Tree). Leaves (left (tablesOf l) (readReply (tablesOf l) form x) entry) r exit) (sym g)
       (of-app (k .0) r exit (f (k .0) (k .2) (sure-of l ws ts (k .0) p (subst (λ (x : Tree). Arena ws ts x) g a)) q))
 
-  no-list : (t : Tree) → onApp t false (λ us. true) ≡ false → readModel (tablesOf l) t ≡ refused UnexpectedModel
-  unfolding readModel
+  no-list : (t : Tree) → onApp t false (λ us. true) ≡ false → readReply (tablesOf l) form t ≡ refused UnexpectedModel
+  unfolding readReply
   no-list (bitVec w n) h = refl
   no-list (numeral n) h = refl
   no-list (string s) h = refl
   no-list (symbol s) h = refl
   no-list (app us) h = absurd (true≢false h)
 
-  pub model-no-list : list ≡ Parts.NoList → Modelled l ws ts last entry (Refused UnexpectedModel) entry
-  model-no-list e t p a q =
+  pub reply-no-list : list ≡ Parts.NoList → Replied form l ws ts last entry (Refused UnexpectedModel) entry
+  reply-no-list e t p a q =
       subst (λ (m : Result (List Definition)). Leaves (left (tablesOf l) m entry) (Refused UnexpectedModel) entry) (sym (no-list t (subst (PartsAt ws 0) e found ts t (stood l ws ts t a))))
       (leaves-refused UnexpectedModel entry)
 
 -- the arena, and the tables
-module _ (l : Lent) (ws ts last entry : List ℕ) (c : Checked) (checks : Checks ws ts c) where
-  pub stored-tree : (n k : ℕ) → c ≡ Checked.Tree n k → (r : Written) (exit : List ℕ) → Modelled l ws ts last entry r exit → Stored l ws ts last entry r exit
+module _ (form : Form) (l : Lent) (ws ts last entry : List ℕ) (c : Checked) (checks : Checks ws ts c) where
+  pub stored-tree : (n k : ℕ) → c ≡ Checked.Tree n k → (r : Written) (exit : List ℕ) → Replied form l ws ts last entry r exit → Stored form l ws ts last entry r exit
   stored-tree n k e r exit f p q = let t = checks .tree n k e in walked p (t .0) (t .1) (f (t .0) p (t .1) q)
 
-  pub stored-refused : (z : Refusal) → c ≡ Checked.Refused z → Stored l ws ts last entry (Refused BadArena) entry
+  pub stored-refused : (z : Refusal) → c ≡ Checked.Refused z → Stored form l ws ts last entry (Refused BadArena) entry
   stored-refused z e p q = bad-arena p (checks .refused z e) (leaves-refused BadArena entry)
 
-module _ (l : Lent) (ws ts entry : List ℕ) (c : Tabled) (e : c ≡ checked l) where
-  pub tables-passed : c ≡ Tabled.Passed → (last : List ℕ) → last ≡ replicate (slots * stride) 0 → (r : Written) (exit : List ℕ) → Stored l ws ts last entry r exit → Lists l ws ts entry r exit
+module _ (form : Form) (l : Lent) (ws ts entry : List ℕ) (c : Tabled) (e : c ≡ checked l) where
+  pub tables-passed : c ≡ Tabled.Passed → (last : List ℕ) → last ≡ replicate (slots * stride) 0 → (r : Written) (exit : List ℕ) → Stored form l ws ts last entry r exit → Lists form l ws ts entry r exit
   tables-passed g last q r exit f = f (passed-passes l (sym e ∙ g)) q
 
-  pub tables-refused : (z : Refusal) → c ≡ Tabled.Refused z → Lists l ws ts entry (Refused BadTable) entry
+  pub tables-refused : (z : Refusal) → c ≡ Tabled.Refused z → Lists form l ws ts entry (Refused BadTable) entry
   tables-refused z g =
       by-test (passes l)
       (λ h. let k : Tabled.Passed ≡ Tabled.Refused z = sym (e ∙ rw h refl) ∙ g in let n : _≡_ {A = ℕ} 0 1 = cc in absurd (omega arith))

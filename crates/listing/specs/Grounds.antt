@@ -1,4 +1,4 @@
--- Document 01, "The model walk": what a definition that is noted stands on: a variable's value at its node, a function's command at its.
+-- Document 01, "The model walk", and document 02, R-1: what a definition that is noted stands on: a variable's value at its node, a function's command at its.
 use mathlib.Core.Path.{_≡_}
 use mathlib.Core.Bool.{true}
 use mathlib.Core.List.{List, [], _∷_}

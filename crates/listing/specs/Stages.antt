@@ -1,5 +1,5 @@
--- Document 01, "The model walk" and "The listing", in this order: what each step of the call promises: the words that are noted, the commands,
--- the model, the arena; and the zeros up to the need.
+-- Document 01, "The model walk" and "The listing", in this order, and document 02, R-1: what each step of the call promises: the words that are
+-- noted, the parts of the reply, the reply, the arena; and the zeros up to the need.
 use mathlib.Core.Path.{_≡_}
 use mathlib.Core.Bool.{true}
 use mathlib.Core.List.{List, _++_}
@@ -14,7 +14,8 @@ use Rattle.tables.specs.Layout.{Lent, tablesOf}
 use Rattle.tables.specs.Rules.{lawful}
 use Rattle.shapes.specs.Shows.{StandingAll}
 use Rattle.well_sorted.specs.Octets.{OctetsAll}
-use Rattle.model.specs.Model.{readCommands, readModel}
+use Rattle.commands.specs.declared.form.Form.{Form}
+use Rattle.model.specs.Model.{readParts, readReply}
 use Rattle.model.specs.Listing.{listing, need}
 use Rattle.walk.specs.Last.{slots, stride}
 use Rattle.walk.specs.Placed.{Placed, its}
@@ -22,7 +23,7 @@ use Rattle.listing.specs.Grounds.{Known}
 use Rattle.listing.specs.Entries.{OfBoth}
 use Rattle.listing.specs.Lists.{fitted, left, Lists}
 
--- tables and commands that passed the checks of 25 and 27
+-- tables and parts that passed the checks of 25 and 27
 pub record Sure (l : Lent) (us : Trees) : Type 0 where
   pub rules : lawful (tablesOf l) ≡ true
   pub octets : OctetsAll us
@@ -33,7 +34,7 @@ pub record Sure (l : Lent) (us : Trees) : Type 0 where
 abbrev pub Zeroed : List ℕ → ℕ → ℕ → List ℕ → Type 0
 Zeroed entry start end exit = start ≤ end → end ≤ length entry → exit ≡ take start entry ++ (replicate (end - start) 0 ++ drop end entry)
 
--- the definitions that are noted, the commands that stand from node 1 on, and the whole model
+-- the definitions that are noted, the parts that stand from node 1 on, and the whole reply
 abbrev pub FinishesOf : Lent → List ℕ → List ℕ → List ℕ → List ℕ → Written → List ℕ → Type 0
 FinishesOf l ws ts last entry r exit =
     (ps : List Placed) → Known l ws ts last ps → Leaves (fitted (listing (tablesOf l) (its ps)) (need (tablesOf l) (its ps)) entry) r exit
@@ -41,13 +42,13 @@ FinishesOf l ws ts last entry r exit =
 abbrev pub Finishes : List ℕ → List ℕ → List ℕ → List ℕ → List ℕ → List ℕ → List ℕ → List ℕ → List ℕ → Written → List ℕ → Type 0
 Finishes sorts variables functions members names ws ts last entry r exit = OfBoth (λ l. FinishesOf l ws ts last entry r exit) sorts variables functions members names
 
-abbrev pub Commanded : Lent → List ℕ → List ℕ → ℕ → List ℕ → List ℕ → Written → List ℕ → Type 0
-Commanded l ws ts many last entry r exit =
-    (us : Trees) → StandingAll us ws ts 1 many → Sure l us → last ≡ replicate (slots * stride) 0 → Leaves (left (tablesOf l) (readCommands (tablesOf l) us) entry) r exit
+abbrev pub Parted : Form → Lent → List ℕ → List ℕ → ℕ → List ℕ → List ℕ → Written → List ℕ → Type 0
+Parted form l ws ts many last entry r exit =
+    (us : Trees) → StandingAll us ws ts 1 many → Sure l us → last ≡ replicate (slots * stride) 0 → Leaves (left (tablesOf l) (readParts (tablesOf l) form us) entry) r exit
 
-abbrev pub Modelled : Lent → List ℕ → List ℕ → List ℕ → List ℕ → Written → List ℕ → Type 0
-Modelled l ws ts last entry r exit =
-    (t : Tree) → passes l ≡ true → Arena ws ts t → last ≡ replicate (slots * stride) 0 → Leaves (left (tablesOf l) (readModel (tablesOf l) t) entry) r exit
+abbrev pub Replied : Form → Lent → List ℕ → List ℕ → List ℕ → List ℕ → Written → List ℕ → Type 0
+Replied form l ws ts last entry r exit =
+    (t : Tree) → passes l ≡ true → Arena ws ts t → last ≡ replicate (slots * stride) 0 → Leaves (left (tablesOf l) (readReply (tablesOf l) form t) entry) r exit
 
-abbrev pub Stored : Lent → List ℕ → List ℕ → List ℕ → List ℕ → Written → List ℕ → Type 0
-Stored l ws ts last entry r exit = passes l ≡ true → last ≡ replicate (slots * stride) 0 → Lists l ws ts entry r exit
+abbrev pub Stored : Form → Lent → List ℕ → List ℕ → List ℕ → List ℕ → Written → List ℕ → Type 0
+Stored form l ws ts last entry r exit = passes l ≡ true → last ≡ replicate (slots * stride) 0 → Lists form l ws ts entry r exit
