@@ -33,7 +33,7 @@ abbrev pub Demanded : Form → Tables → Tree → List Definition → Type 0
 Demanded Form.Model T t ds = Demand T t ds
 Demanded Form.Values T t ds = Valued T t ds
 
-demanded : (form : Form) (T : Tables) → lawful T ≡ true → (t : Tree) (ds : List Definition) → Sound t → readReply T form t ≡ ok ds → Demanded form T t (map settled ds)
+pub demanded : (form : Form) (T : Tables) → lawful T ≡ true → (t : Tree) (ds : List Definition) → Sound t → readReply T form t ≡ ok ds → Demanded form T t (map settled ds)
 demanded Form.Model T rules t ds s e = third-demand-sound T rules t ds s e
 demanded Form.Values T rules t ds s e = values-demand-sound T rules t ds s e
 

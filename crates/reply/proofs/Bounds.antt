@@ -14,7 +14,8 @@ use Rattle.lent.specs.declared.Written.the-variants.{Length, Refused}
 use Rattle.lent.specs.Left.{onto, Left, refusing, Leaves}
 use Rattle.tables.specs.Sort.{Tables}
 use Rattle.sorts.specs.Result.{Result, ok, refused}
-use Rattle.model.specs.Model.{Definition, readModel}
+use Rattle.commands.specs.declared.form.Form.{Form}
+use Rattle.model.specs.Model.{Definition, readReply}
 use Rattle.model.specs.Listing.{listing, need}
 use Rattle.listing.specs.Lists.{listed, fitted, left}
 use Rattle.reply.specs.Reply.{Rooms, Walks, unread, walked, Replies, too-long, bad-table, spelled}
@@ -44,13 +45,13 @@ left-inside T (refused why) out = no-length why out
 leaves-inside : {l : Left} {r : Written} {exit : List ℕ} → Inside (l .answer) (l .holds) → Leaves l r exit → Inside r exit
 leaves-inside {l} {r} {exit} f d n e = subst (λ (x : List ℕ). n ≤ length x) (sym (d .holds)) (f n (sym (d .answers) ∙ e))
 
-walks-inside : {T : Tables} {rooms : Rooms} {reply entry : List ℕ} {r : Written} {exit : List ℕ} → Walks T rooms reply entry r exit → Inside r exit
-walks-inside {T} {rooms} {reply} {entry} (unread why a d) = leaves-inside (no-length why entry) d
-walks-inside {T} {rooms} {reply} {entry} (walked t i a d) = leaves-inside (left-inside T (readModel T t) entry) d
+walks-inside : {form : Form} {T : Tables} {rooms : Rooms} {reply entry : List ℕ} {r : Written} {exit : List ℕ} → Walks form T rooms reply entry r exit → Inside r exit
+walks-inside {form} {T} {rooms} {reply} {entry} (unread why a d) = leaves-inside (no-length why entry) d
+walks-inside {form} {T} {rooms} {reply} {entry} (walked t i a d) = leaves-inside (left-inside T (readReply T form t) entry) d
 
-pub replies-inside : {tables reply entry : List ℕ} {rooms after : Rooms} {r : Written} {exit : List ℕ} → Replies tables reply rooms entry r after exit → Inside r exit
-replies-inside {tables} {reply} {entry} (too-long a d x) = leaves-inside (no-length _ entry) d
-replies-inside {tables} {reply} {entry} (bad-table a never d x) = leaves-inside (no-length _ entry) d
+pub replies-inside : {form : Form} {tables reply entry : List ℕ} {rooms after : Rooms} {r : Written} {exit : List ℕ} → Replies form tables reply rooms entry r after exit → Inside r exit
+replies-inside {form} {tables} {reply} {entry} (too-long a d x) = leaves-inside (no-length _ entry) d
+replies-inside {form} {tables} {reply} {entry} (bad-table a never d x) = leaves-inside (no-length _ entry) d
 replies-inside (spelled a T s w x) = walks-inside w
 
 -- lines that are shown, or none
@@ -63,5 +64,5 @@ shown-inside : (answer : Written) (out : List ℕ) → Inside answer out → {r 
 shown-inside (Length n) out f {r} {exit} s = omega (arith, f n refl, s .counts, ap length (s .holds))
 shown-inside (Refused why) out f s = lines-inside (refusalLines why) out (leb (length (refusalLines why)) (length out)) s
 
-pub printed-within : {tables reply entry : List ℕ} {r : ℕ} {exit : List ℕ} → Prints tables reply entry r exit → r ≤ length exit
+pub printed-within : {form : Form} {tables reply entry : List ℕ} {r : ℕ} {exit : List ℕ} → Prints form tables reply entry r exit → r ≤ length exit
 printed-within p = shown-inside (p .answer) (p .left) (replies-inside (p .lists .replies)) (p .shows)

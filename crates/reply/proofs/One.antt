@@ -20,7 +20,8 @@ use Rattle.tables_text.specs.Parse.{parse}
 use Rattle.tables_text.specs.Read.{Spells}
 use Rattle.tables_text.proofs.Spelled.{some-equal}
 use Rattle.tables_text.proofs.Back.{read-back}
-use Rattle.model.specs.Model.{readModel}
+use Rattle.commands.specs.declared.form.Form.{Form}
+use Rattle.model.specs.Model.{readReply}
 use Rattle.listing.specs.Lists as listing
 use Rattle.reply.specs.Reply.{Rooms, Walks, unread, walked, Replies, too-long, bad-table, spelled, programRooms}
 use Rattle.reply.specs.Printed.{Shown, shown, Shows, Prints}
@@ -32,8 +33,8 @@ one-spelled s t u p q =
     let b : parse s ≡ some u = ap parse (q .same) ∙ read-back u (q .lawful) (q .writable) in
     some-equal (sym a ∙ b)
 
-module _ (T : Tables) (rooms : Rooms) (reply entry : List ℕ) where
-  one-walk : {r s : Written} {d e : List ℕ} → Walks T rooms reply entry r d → Walks T rooms reply entry s e → (r ≡ s) × (d ≡ e)
+module _ (form : Form) (T : Tables) (rooms : Rooms) (reply entry : List ℕ) where
+  one-walk : {r s : Written} {d e : List ℕ} → Walks form T rooms reply entry r d → Walks form T rooms reply entry s e → (r ≡ s) × (d ≡ e)
   one-walk {r} {s} {d} {e} (unread why a p) (unread also b q) =
       let k : Reading.Refused why ≡ Reading.Refused also = sym a ∙ b in
       let w : also ≡ why = cc in
@@ -49,10 +50,10 @@ module _ (T : Tables) (rooms : Rooms) (reply entry : List ℕ) where
   one-walk {r} {s} {d} {e} (walked t i a p) (walked u j b q) =
       let k : tree t ≡ tree u = sym i ∙ j in
       let w : u ≡ t = cc in
-      one-left p (subst (λ (x : Tree). Leaves (listing.left T (readModel T x) entry) s e) w q)
+      one-left p (subst (λ (x : Tree). Leaves (listing.left T (readReply T form x) entry) s e) w q)
 
-module _ (tables reply : List ℕ) (rooms : Rooms) (entry : List ℕ) where
-  pub one-reply : {r s : Written} {x y : Rooms} {d e : List ℕ} → Replies tables reply rooms entry r x d → Replies tables reply rooms entry s y e → (r ≡ s) × (x ≡ y) × (d ≡ e)
+module _ (form : Form) (tables reply : List ℕ) (rooms : Rooms) (entry : List ℕ) where
+  pub one-reply : {r s : Written} {x y : Rooms} {d e : List ℕ} → Replies form tables reply rooms entry r x d → Replies form tables reply rooms entry s y e → (r ≡ s) × (x ≡ y) × (d ≡ e)
   one-reply (too-long a p x) (too-long b q y) = let k = one-left p q in (k .0, one-result x y, k .1)
   one-reply (too-long a p x) (bad-table b never q y) = absurd (true≢false (sym b ∙ a))
   one-reply (too-long a p x) (spelled b T s q y) = absurd (true≢false (sym b ∙ a))
@@ -62,16 +63,16 @@ module _ (tables reply : List ℕ) (rooms : Rooms) (entry : List ℕ) where
   one-reply (spelled a T s p x) (too-long b q y) = absurd (true≢false (sym a ∙ b))
   one-reply (spelled a T s p x) (bad-table b never q y) = absurd (never T s)
   one-reply {r} {s} {x} {y} {d} {e} (spelled a T t p i) (spelled b U u q j) =
-      let k = one-walk T rooms reply entry p (subst (λ (v : Tables). Walks v rooms reply entry s e) (one-spelled tables U T u t) q) in
+      let k = one-walk form T rooms reply entry p (subst (λ (v : Tables). Walks form v rooms reply entry s e) (one-spelled tables U T u t) q) in
       (k .0, one-result i j, k .1)
 
 -- the same of a refusal's lines, and of what is printed
 pub one-shown : {what : Shown} {r s : ℕ} {d e : List ℕ} → Shows what r d → Shows what s e → (r ≡ s) × (d ≡ e)
 one-shown p q = (one-result (p .counts) (q .counts), one-result (p .holds) (q .holds))
 
-pub one-print : (tables reply entry : List ℕ) {r s : ℕ} {d e : List ℕ} → Prints tables reply entry r d → Prints tables reply entry s e → (r ≡ s) × (d ≡ e)
-one-print tables reply entry {r} {s} {d} {e} p q =
-    let k = one-reply tables reply programRooms entry (p .lists .replies) (q .lists .replies) in
+pub one-print : (form : Form) (tables reply entry : List ℕ) {r s : ℕ} {d e : List ℕ} → Prints form tables reply entry r d → Prints form tables reply entry s e → (r ≡ s) × (d ≡ e)
+one-print form tables reply entry {r} {s} {d} {e} p q =
+    let k = one-reply form tables reply programRooms entry (p .lists .replies) (q .lists .replies) in
     let same : shown (q .answer) (q .left) ≡ shown (p .answer) (p .left) =
     ap (λ (w : Written). shown w (q .left)) (sym (k .0)) ∙ ap (shown (p .answer)) (sym (k .2)) in (
       one-result (p .shows .counts) (q .shows .counts ∙ ap (λ x. x .count) same),

@@ -29,6 +29,7 @@ use Rattle.tables_text.proofs.Parses.{table-long, sorts-long}
 use Rattle.tables_text.proofs.Meanings.{laid-means}
 use Rattle.tables_text.proofs.Stores.{fit-stored}
 use Rattle.tables_text.proofs.Readings.{passes-lawful, by-spelling}
+use Rattle.commands.specs.declared.form.Form.{Form}
 use Rattle.reply.specs.Reply.{byteLimit, within, Rooms, Walks, Replies}
 use Rattle.reply.specs.Read.{ReadsOn}
 
@@ -78,8 +79,8 @@ module _ (tables reply : List ℕ) where
   both-short : length tables ≤ byteLimit → length reply ≤ byteLimit → within tables reply ≡ true
   both-short h k = ap (λ (b : Bool). b && leb (length reply) byteLimit) (le-leb (length tables) byteLimit h) ∙ le-leb (length reply) byteLimit k
 
-  pub refused-long : (rooms : Rooms) (out : List ℕ) → within tables reply ≡ false → Replies tables reply rooms out (Written.Refused InputTooLong) rooms out
-  refused-long rooms out h = Replies.too-long h (record { answers = refl; holds = refl }) refl
+  pub refused-long : (form : Form) (rooms : Rooms) (out : List ℕ) → within tables reply ≡ false → Replies form tables reply rooms out (Written.Refused InputTooLong) rooms out
+  refused-long form rooms out h = Replies.too-long h (record { answers = refl; holds = refl }) refl
 
 -- what reading the text in those rooms leaves
 module _ (tables : List ℕ) (entry : Buffers) (r : TablesRead) (exit : Buffers) (d : Reads tables entry r exit) (short : length tables ≤ byteLimit) (roomy : Roomy entry) where
@@ -90,8 +91,8 @@ module _ (tables : List ℕ) (entry : Buffers) (r : TablesRead) (exit : Buffers)
       record { answers = p .answers ∙ sym (q .answers); holds = p .holds ∙ sym (q .holds) }
 
   -- a refusal is of a text that spells nothing
-  pub nothing-spelled : (reply out : List ℕ) (rooms : Rooms) (why : Refusal) → length reply ≤ byteLimit → r ≡ TablesRead.Refused why → Replies tables reply rooms out (Written.Refused why) rooms out
-  nothing-spelled reply out rooms why h e =
+  pub nothing-spelled : (form : Form) (reply out : List ℕ) (rooms : Rooms) (why : Refusal) → length reply ≤ byteLimit → r ≡ TablesRead.Refused why → Replies form tables reply rooms out (Written.Refused why) rooms out
+  nothing-spelled form reply out rooms why h e =
       by-spelling tables
       (λ t s.
       let q : TablesRead.Refused why ≡ stored entry (laid t tables) .answer = sym e ∙ all-stored t s .answers in
@@ -176,10 +177,10 @@ module _ (tables : List ℕ) (entry : Buffers) (r : TablesRead) (exit : Buffers)
         (front e (laid (h .of) tables .functions) (entry .functions) (exit .functions) (h .size-4) (ap (λ (x : Buffers). x .functions) (h .holds)))
         (front f (laid (h .of) tables .members) (entry .members) (exit .members) (h .size-5) (ap (λ (x : Buffers). x .members) (h .holds)))
 
-    pub spelled-walked : (reply out : List ℕ) (rooms after : Rooms) (answer : Written) (left : List ℕ) → length reply ≤ byteLimit → ReadsOn lent reply rooms out answer after left → Replies tables reply rooms out answer after left
-    spelled-walked reply out rooms after answer left h on =
+    pub spelled-walked : (form : Form) (reply out : List ℕ) (rooms after : Rooms) (answer : Written) (left : List ℕ) → length reply ≤ byteLimit → ReadsOn form lent reply rooms out answer after left → Replies form tables reply rooms out answer after left
+    spelled-walked form reply out rooms after answer left h on =
         let k = held in
         let l : lent ≡ laid (k .of) tables = lent-laid k in
         let fine : passes lent ≡ true = ap passes l ∙ passes-lawful (k .of) tables (k .spells .same) ∙ k .spells .lawful in
         let means : tablesOf lent ≡ k .of = ap tablesOf l ∙ ap (λ (s : List ℕ). tablesOf (laid (k .of) s)) (k .spells .same) ∙ laid-means (k .of) in
-        Replies.spelled (both-short tables reply short h) (k .of) (k .spells) (subst (λ (T : Tables). Walks T rooms reply out answer left) means (on .walks fine h)) (on .leaves)
+        Replies.spelled (both-short tables reply short h) (k .of) (k .spells) (subst (λ (T : Tables). Walks form T rooms reply out answer left) means (on .walks fine h)) (on .leaves)

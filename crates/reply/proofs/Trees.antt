@@ -25,7 +25,8 @@ use Rattle.reader.specs.Read.{parse, reading, refusing, written, fitted, settle
 use Rattle.reader.proofs.Sounds.{accepted-arena}
 use Rattle.tables.specs.Check.{passes}
 use Rattle.tables.specs.Layout.{Lent, tablesOf}
-use Rattle.model.specs.Model.{readModel}
+use Rattle.commands.specs.declared.form.Form.{Form}
+use Rattle.model.specs.Model.{readReply}
 use Rattle.listing.specs.Lists.{Lists, bad-table, bad-arena, walked, left}
 use Rattle.reply.specs.Reply.{byteLimit, Rooms, readIn, roomsOf, Walks}
 use Rattle.reply.specs.Read.{ReadsOn}
@@ -67,33 +68,33 @@ module _ (N T S s : List ℕ) (a b c : ℕ) where
           absurd (omega arith)
 
 -- words and a text that start with the arena of a tree are walked as that tree
-module _ (l : Lent) (ws ts entry : List ℕ) (r : Written) (exit : List ℕ) (t : Tree) (fine : passes l ≡ true) (arena : Arena ws ts t) where
-  walked-as : Lists l ws ts entry r exit → Leaves (left (tablesOf l) (readModel (tablesOf l) t) entry) r exit
+module _ (form : Form) (l : Lent) (ws ts entry : List ℕ) (r : Written) (exit : List ℕ) (t : Tree) (fine : passes l ≡ true) (arena : Arena ws ts t) where
+  walked-as : Lists form l ws ts entry r exit → Leaves (left (tablesOf l) (readReply (tablesOf l) form t) entry) r exit
   walked-as (bad-table h d) = absurd (true≢false (sym fine ∙ h))
   walked-as (bad-arena h none d) = absurd (none t arena)
-  walked-as (walked h u a d) = subst (λ (v : Tree). Leaves (left (tablesOf l) (readModel (tablesOf l) v) entry) r exit) (one-arena ws ts u t a arena) d
+  walked-as (walked h u a d) = subst (λ (v : Tree). Leaves (left (tablesOf l) (readReply (tablesOf l) form v) entry) r exit) (one-arena ws ts u t a arena) d
 
 pub rooms-equal : {a b c d e f : List ℕ} → a ≡ d → b ≡ e → c ≡ f → _≡_ {A = Rooms} (record { nodes = a; text = b; stack = c }) (record { nodes = d; text = e; stack = f })
 rooms-equal p q r = simp (p, q, r)
 
-module _ (l : Lent) (reply N T S entry : List ℕ) (found : Reading) (ws ts ss : List ℕ) (d : read.Leaves (reading N T S reply) found ws ts ss) where
+module _ (form : Form) (l : Lent) (reply N T S entry : List ℕ) (found : Reading) (ws ts ss : List ℕ) (d : read.Leaves (reading N T S reply) found ws ts ss) where
   abbrev rooms : Rooms
   rooms = record { nodes = N; text = T; stack = S }
 
   after-read : record { nodes = ws; text = ts; stack = ss } ≡ roomsOf (readIn rooms reply)
   after-read = rooms-equal (d .nodes) (d .text) (d .stack)
 
-  pub text-unread : (why : Refusal) → found ≡ Reading.Refused why → ReadsOn l reply rooms entry (Written.Refused why) (record { nodes = ws; text = ts; stack = ss }) entry
+  pub text-unread : (why : Refusal) → found ≡ Reading.Refused why → ReadsOn form l reply rooms entry (Written.Refused why) (record { nodes = ws; text = ts; stack = ss }) entry
   text-unread why e = record {
     walks = λ _ _. Walks.unread why (sym (d .answers) ∙ e) (record { answers = refl; holds = refl });
     leaves = after-read;
   }
 
-  pub text-walked : (a b c : ℕ) → found ≡ Reading.Read a b c → Bytes reply → (r : Written) (exit : List ℕ) → Lists l ws ts entry r exit
-      → ReadsOn l reply rooms entry r (record { nodes = ws; text = ts; stack = ss }) exit
+  pub text-walked : (a b c : ℕ) → found ≡ Reading.Read a b c → Bytes reply → (r : Written) (exit : List ℕ) → Lists form l ws ts entry r exit
+      → ReadsOn form l reply rooms entry r (record { nodes = ws; text = ts; stack = ss }) exit
   text-walked a b c e bytes r exit lists = record { walks = walks; leaves = after-read }
     where
-      walks : passes l ≡ true → length reply ≤ byteLimit → Walks (tablesOf l) rooms reply entry r exit
+      walks : passes l ≡ true → length reply ≤ byteLimit → Walks form (tablesOf l) rooms reply entry r exit
       walks fine short =
           let k = told N T S reply a b c (omega arith) (sym (d .answers) ∙ e) in
           let t = k .of in
@@ -102,4 +103,4 @@ module _ (l : Lent) (reply N T S entry : List ℕ) (found : Reading) (ws ts ss :
           let arena : Arena ws ts t =
           subst₂ (λ (x y : List ℕ). Arena x y t) (sym n) (sym m)
           (accepted-arena reply t (drop (nodes t * stride) N) (drop (length (text t)) T) bytes (omega arith) (k .is)) in
-          Walks.walked t (k .is) (ap (λ (x : read.Left). x .answer) (k .all)) (walked-as l ws ts entry r exit t fine arena lists)
+          Walks.walked t (k .is) (ap (λ (x : read.Left). x .answer) (k .all)) (walked-as form l ws ts entry r exit t fine arena lists)

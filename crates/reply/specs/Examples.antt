@@ -1,4 +1,4 @@
--- Document 01, "The listing", program `modellist`: the two lines of a refusal, with a need and without.
+-- Document 01, "The listing", program `modellist`, and document 02, R-1, `valuelist`: the two lines of a refusal, with a need and without.
 use mathlib.Core.Path.{_≡_, refl}
 use mathlib.Core.List.{[], _∷_}
 use Rattle.ground.specs.Bytes.{bytes}

@@ -1,4 +1,4 @@
--- Document 01, "The listing", program `modellist`: a refusal prints `refused=N`, `detail=D`, a line each.
+-- Document 01, "The listing", program `modellist`, and document 02, R-1, `valuelist`: a refusal prints `refused=N`, `detail=D`, a line each.
 use mathlib.Core.Path.{_≡_}
 use mathlib.Core.Bool.{cond}
 use mathlib.Core.List.{List, _++_}
@@ -11,6 +11,7 @@ use Rattle.lent.specs.declared.Written.{Written}
 use Rattle.lent.specs.declared.Written.the-variants.{Length, Refused}
 use Rattle.lent.specs.Left.{onto}
 use Rattle.decimals.specs.Decimal.{decimal}
+use Rattle.commands.specs.declared.form.Form.{Form}
 use Rattle.model.specs.Listing.{line}
 use Rattle.reply.specs.Reply.{Rooms, Replies, programRooms}
 
@@ -36,13 +37,13 @@ pub record Shows (what : Shown) (r : ℕ) (exit : List ℕ) : Type 0 where
   pub holds : exit ≡ what .holds
 
 -- what a tables' text and a reply come to in the program's rooms
-pub record Lists (tables reply entry : List ℕ) (r : Written) (exit : List ℕ) : Type 0 where
+pub record Lists (form : Form) (tables reply entry : List ℕ) (r : Written) (exit : List ℕ) : Type 0 where
   pub after : Rooms
-  pub replies : Replies tables reply programRooms entry r after exit
+  pub replies : Replies form tables reply programRooms entry r after exit
 
 -- what they print
-pub record Prints (tables reply entry : List ℕ) (r : ℕ) (exit : List ℕ) : Type 0 where
+pub record Prints (form : Form) (tables reply entry : List ℕ) (r : ℕ) (exit : List ℕ) : Type 0 where
   pub answer : Written
   pub left : List ℕ
-  pub lists : Lists tables reply entry answer left
+  pub lists : Lists form tables reply entry answer left
   pub shows : Shows (shown answer left) r exit

@@ -1,5 +1,5 @@
--- Document 01, "The listing", program `modellist`: what a tables' text and a reply come to, in the rooms that are lent for the tree and
--- the listing: 9 first, then 25, the reader's, the walk's.
+-- Document 01, "The listing", program `modellist`, and document 02, R-1, `valuelist`: what a tables' text and a reply come to, in the rooms that
+-- are lent for the tree and the listing: 9 first, then 25, the reader's, the walk's.
 use mathlib.Core.Path.{_≡_}
 use mathlib.Core.Bool.{Bool, true, false, _&&_}
 use mathlib.Core.List.{List}
@@ -17,7 +17,8 @@ use Rattle.reader.specs.declared.read.Reading.{Reading}
 use Rattle.reader.specs.Read.{Left, parse, reading, written}
 use Rattle.tables.specs.Sort.{Tables}
 use Rattle.tables_text.specs.Read.{Spells}
-use Rattle.model.specs.Model.{readModel}
+use Rattle.commands.specs.declared.form.Form.{Form}
+use Rattle.model.specs.Model.{readReply}
 use Rattle.listing.specs.Lists.{left}
 
 -- of each of the two inputs
@@ -41,15 +42,15 @@ abbrev pub roomsOf : Left → Rooms
 roomsOf l = record { nodes = l .nodes; text = l .text; stack = l .stack }
 
 -- a reply that the reader refuses, or a tree that is walked
-pub data Walks (T : Tables) (rooms : Rooms) (reply entry : List ℕ) (r : Written) (exit : List ℕ) : Type 0 where
-  unread : (why : Refusal) → readIn rooms reply .answer ≡ Reading.Refused why → Leaves (refusing why entry) r exit → Walks T rooms reply entry r exit
+pub data Walks (form : Form) (T : Tables) (rooms : Rooms) (reply entry : List ℕ) (r : Written) (exit : List ℕ) : Type 0 where
+  unread : (why : Refusal) → readIn rooms reply .answer ≡ Reading.Refused why → Leaves (refusing why entry) r exit → Walks form T rooms reply entry r exit
   walked : (t : Tree) → parse reply ≡ tree t → readIn rooms reply .answer ≡ written (rooms .nodes) (rooms .text) (rooms .stack) t .answer →
-      Leaves (left T (readModel T t) entry) r exit → Walks T rooms reply entry r exit
+      Leaves (left T (readReply T form t) entry) r exit → Walks form T rooms reply entry r exit
 
-pub data Replies (tables reply : List ℕ) (rooms : Rooms) (entry : List ℕ) (r : Written) (after : Rooms) (exit : List ℕ) : Type 0 where
-  too-long : within tables reply ≡ false → Leaves (refusing InputTooLong entry) r exit → after ≡ rooms → Replies tables reply rooms entry r after exit
-  bad-table : within tables reply ≡ true → ((T : Tables) → Spells tables T → ⊥) → Leaves (refusing BadTable entry) r exit → after ≡ rooms → Replies tables reply rooms entry r after exit
-  spelled : within tables reply ≡ true → (T : Tables) → Spells tables T → Walks T rooms reply entry r exit → after ≡ roomsOf (readIn rooms reply) → Replies tables reply rooms entry r after exit
+pub data Replies (form : Form) (tables reply : List ℕ) (rooms : Rooms) (entry : List ℕ) (r : Written) (after : Rooms) (exit : List ℕ) : Type 0 where
+  too-long : within tables reply ≡ false → Leaves (refusing InputTooLong entry) r exit → after ≡ rooms → Replies form tables reply rooms entry r after exit
+  bad-table : within tables reply ≡ true → ((T : Tables) → Spells tables T → ⊥) → Leaves (refusing BadTable entry) r exit → after ≡ rooms → Replies form tables reply rooms entry r after exit
+  spelled : within tables reply ≡ true → (T : Tables) → Spells tables T → Walks form T rooms reply entry r exit → after ≡ roomsOf (readIn rooms reply) → Replies form tables reply rooms entry r after exit
 
 -- the program's rooms: its nodes, 65,536 text bytes, depth 4,096
 abbrev pub programRooms : Rooms
