@@ -19,6 +19,7 @@ use Rattle.tables.specs.Lookup.{FindsVariable, FindsFunction, FindsMember, Find
 use Rattle.tables.proofs.One.{one-variable, one-function, one-member, one-named}
 use Rattle.tables_text.specs.Read.{Buffers}
 use Rattle.tables_text.proofs.Readings.{one-reading}
+use Rattle.commands.specs.declared.form.Form.{Form}
 use Rattle.listing.proofs.One.{one-listing}
 use Rattle.told.specs.Code.{codeOf}
 use Rattle.told.specs.Tells.{Yield, Tells}
@@ -92,8 +93,8 @@ one-check-out {ws} {ts} x y =
 pub one-tables-read : {text told : List ℕ} {entry x y : Buffers} {r q : ℕ} {d e : List ℕ} → ReadsOut text entry told r d x → ReadsOut text entry told q e y → (r ≡ q) × (d ≡ e) × (x ≡ y)
 one-tables-read {text} {told} {entry} p q = one-promise (λ a b s t. one-reading text entry s t) p q
 
-pub one-listing-out : {l : Lent} {ws ts out told x y : List ℕ} {r q : ℕ} {d e : List ℕ} → ListsOut l ws ts out told r d x → ListsOut l ws ts out told q e y → (r ≡ q) × (d ≡ e) × (x ≡ y)
-one-listing-out {l} {ws} {ts} {out} {told} {x} {y} p q = one-promise (λ a b s t. one-listing l ws ts out a b x y s t) p q
+pub one-listing-out : {form : Form} {l : Lent} {ws ts out told x y : List ℕ} {r q : ℕ} {d e : List ℕ} → ListsOut form l ws ts out told r d x → ListsOut form l ws ts out told q e y → (r ≡ q) × (d ≡ e) × (x ≡ y)
+one-listing-out {form} {l} {ws} {ts} {out} {told} {x} {y} p q = one-promise (λ a b s t. one-listing form l ws ts out a b x y s t) p q
 
 -- every lookup, by the law of the call that is exported
 pub one-lookup : {finds : Found → Type 0} {told : List ℕ} {r q : ℕ} {d e : List ℕ} → ((a b : Found) → finds a → finds b → a ≡ b)

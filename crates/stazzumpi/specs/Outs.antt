@@ -7,6 +7,7 @@ use Rattle.arena_check.specs.Checks.{Checks}
 use Rattle.tables.specs.declared.find.Found.{Found}
 use Rattle.tables.specs.Layout.{Lent}
 use Rattle.tables_text.specs.Read.{Buffers, Reads}
+use Rattle.commands.specs.declared.form.Form.{Form}
 use Rattle.listing.specs.Lists.{Lists}
 use Rattle.told.specs.Yields.{written, read, checked, tablesRead, foundRow}
 use Rattle.stazzumpi.specs.Exports.{Left, exported, Exports, Promises}
@@ -34,5 +35,5 @@ abbrev pub LooksUp : (Found → Type 0) → List ℕ → ℕ → List ℕ → Ty
 LooksUp finds told r exit = Promises {B = Unit {0}} 2 foundRow (λ answer _. finds answer) told tt r exit tt
 
 -- the listing, exported: at entry the buffer and the slice for numbers, at exit the word, the slice and the buffer
-abbrev pub ListsOut : Lent → List ℕ → List ℕ → List ℕ → List ℕ → ℕ → List ℕ → List ℕ → Type 0
-ListsOut l ws ts out told r toldAfter outAfter = Promises 1 written (λ answer exit. Lists l ws ts out answer exit) told out r toldAfter outAfter
+abbrev pub ListsOut : Form → Lent → List ℕ → List ℕ → List ℕ → List ℕ → ℕ → List ℕ → List ℕ → Type 0
+ListsOut form l ws ts out told r toldAfter outAfter = Promises 1 written (λ answer exit. Lists form l ws ts out answer exit) told out r toldAfter outAfter
