@@ -33,6 +33,7 @@ example: target/example/readtree target/example/listmodel
 	target/example/readtree vectors/replies/option-single/z3-4.8.12.model.txt
 	target/example/listmodel crates/modellist/data/tables.txt crates/modellist/stdin
 	target/example/listmodel vectors/replies/gift-policy-0/tables.txt vectors/replies/gift-policy-0/cvc5-1.0.3.model.txt
+	target/example/listmodel -v crates/modellist/data/tables.txt crates/valuelist/stdin
 
 target/example/%: examples/c/%.c library
 	@mkdir -p $(@D)

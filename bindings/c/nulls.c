@@ -43,6 +43,8 @@ static void nothing(void) {
     expect("find_sort", stazzumpi_find_sort(NULL, 0, 1, 0, NULL, 0), 26, 2);
     expect("list_model", stazzumpi_list_model(NULL, 0, NULL, 0, NULL, 0, NULL, 0, NULL, 0, NULL, 0, NULL, 0, NULL, 0, NULL, 0, NULL, 0), 26,
            1);
+    expect("list_values", stazzumpi_list_values(NULL, 0, NULL, 0, NULL, 0, NULL, 0, NULL, 0, NULL, 0, NULL, 0, NULL, 0, NULL, 0, NULL, 0), 26,
+           1);
     expect("set_logic", stazzumpi_set_logic(NULL, 0, NULL, 0, NULL, 0), 26, 1);
     expect("set_option", stazzumpi_set_option(NULL, 0, NULL, 0, NULL, 0, NULL, 0), 26, 1);
     expect("comment", stazzumpi_comment(NULL, 0, NULL, 0, NULL, 0), 26, 1);
@@ -75,6 +77,8 @@ static void told_alone(void) {
     expect("find_sort", stazzumpi_find_sort(NULL, 0, 1, 0, told, 2), 0, 0);
     expect_words("find_sort", told, zeros, 2);
     expect("list_model", stazzumpi_list_model(NULL, 0, NULL, 0, NULL, 0, NULL, 0, NULL, 0, NULL, 0, NULL, 0, NULL, 0, NULL, 0, told, 1), 27,
+           0);
+    expect("list_values", stazzumpi_list_values(NULL, 0, NULL, 0, NULL, 0, NULL, 0, NULL, 0, NULL, 0, NULL, 0, NULL, 0, NULL, 0, told, 1), 27,
            0);
     expect("set_logic", stazzumpi_set_logic(NULL, 0, NULL, 0, told, 1), 26, 13);
     expect("exit", stazzumpi_exit(NULL, 0, told, 1), 26, 7);

@@ -1,5 +1,7 @@
-/* listmodel TABLES REPLY: the listing of a solver's reply over the tables, or the number of the refusal and its detail. */
+/* listmodel [-v] TABLES REPLY: the listing of a solver's model over the tables, or with -v of its reply to get-value; or the number of
+ * the refusal and its detail. */
 #include <inttypes.h>
+#include <string.h>
 
 #include "files.h"
 #include "stazzumpi.h"
@@ -51,12 +53,12 @@ static uint64_t read_tree(const uint8_t *input, size_t length, struct stazzumpi_
 }
 
 /* The same; the listing's length is told. */
-static uint64_t list_model(const struct stazzumpi_tables *tables, const struct stazzumpi_tree_rooms *rooms, uint8_t **out,
-                           uint64_t *length) {
+static uint64_t list(int values, const struct stazzumpi_tables *tables, const struct stazzumpi_tree_rooms *rooms, uint8_t **out,
+                     uint64_t *length) {
     size_t lent = 0;
     for (;;) {
-        uint64_t r = stazzumpi_list_model_of(tables, rooms->nodes, rooms->nodes_length, rooms->text, rooms->text_length, *out, lent,
-                                             length);
+        uint64_t r = (values ? stazzumpi_list_values_of : stazzumpi_list_model_of)(tables, rooms->nodes, rooms->nodes_length,
+                                                                                    rooms->text, rooms->text_length, *out, lent, length);
         if (STAZZUMPI_NUMBER(r) != STAZZUMPI_OutRoom) return r;
         *out = lend_bytes(*out, &lent, STAZZUMPI_DETAIL(r));
     }
@@ -70,8 +72,10 @@ int main(int count, char **arguments) {
     uint8_t *text, *reply, *out = NULL;
     size_t text_length, reply_length;
     uint64_t length, r;
-    if (count != 3) {
-        fputs("usage: listmodel TABLES REPLY\n", stderr);
+    int values = count > 1 && strcmp(arguments[1], "-v") == 0;
+    arguments += values;
+    if (count != 3 + values) {
+        fputs("usage: listmodel [-v] TABLES REPLY\n", stderr);
         return 2;
     }
     text = whole_file(arguments[1], &text_length);
@@ -79,7 +83,7 @@ int main(int count, char **arguments) {
     rows = table_rooms();
     r = stazzumpi_read_tables_in(text, text_length, &rows, &tables);
     if (r == 0) r = read_tree(reply, reply_length, &rooms, &tree);
-    if (r == 0) r = list_model(&tables, &rooms, &out, &length);
+    if (r == 0) r = list(values, &tables, &rooms, &out, &length);
     if (r == 0)
         fwrite(out, 1, (size_t)length, stdout);
     else

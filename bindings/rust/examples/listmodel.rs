@@ -1,4 +1,5 @@
-//! listmodel TABLES REPLY: what a solver's reply says of the names of the tables, in plain words; or why it is refused.
+//! listmodel [-v] TABLES REPLY: what a solver's model says of the names of the tables, or with -v its reply to get-value, in
+//! plain words; or why it is refused.
 
 use std::process::ExitCode;
 use std::{env, fs};
@@ -10,9 +11,11 @@ use stazzumpi::models;
 const LIMIT: usize = 1 << 30;
 
 fn main() -> ExitCode {
-    let files: Vec<_> = env::args_os().skip(1).collect();
+    let mut files: Vec<_> = env::args_os().skip(1).collect();
+    let values = files.first().is_some_and(|first| first == "-v");
+    files.drain(..usize::from(values));
     let [tables, reply] = &files[..] else {
-        eprintln!("usage: listmodel TABLES REPLY");
+        eprintln!("usage: listmodel [-v] TABLES REPLY");
         return ExitCode::from(2);
     };
     let (tables, reply) = match (fs::read(tables), fs::read(reply)) {
@@ -22,7 +25,8 @@ fn main() -> ExitCode {
             return ExitCode::from(2);
         }
     };
-    match models::list(&tables, &reply, LIMIT) {
+    let list = if values { models::values } else { models::list };
+    match list(&tables, &reply, LIMIT) {
         Ok(bytes) => {
             print(&Listing::of(&bytes).expect("a listing of the library"));
             ExitCode::SUCCESS

@@ -141,6 +141,28 @@ extern "C" {
         told: *mut u64,
         told_length: usize,
     ) -> u64;
+    pub fn stazzumpi_list_values(
+        sorts: *const u64,
+        sorts_length: usize,
+        fields: *const u64,
+        fields_length: usize,
+        variables: *const u64,
+        variables_length: usize,
+        functions: *const u64,
+        functions_length: usize,
+        members: *const u64,
+        members_length: usize,
+        names: *const u8,
+        names_length: usize,
+        nodes: *const u64,
+        nodes_length: usize,
+        text: *const u8,
+        text_length: usize,
+        out: *mut u8,
+        out_length: usize,
+        told: *mut u64,
+        told_length: usize,
+    ) -> u64;
 
     pub fn stazzumpi_set_logic(
         logic: *const u8,

@@ -56,7 +56,7 @@ pub mod trees;
 /// this crate's, and while that is 0 the minor number too.
 ///
 /// ```
-/// assert_eq!(stazzumpi::version(), (0, 2, 0));
+/// assert_eq!(stazzumpi::version(), (0, 3, 0));
 /// ```
 pub fn version() -> (u64, u64, u64) {
     // SAFETY: it takes nothing and is lent nothing.
@@ -133,10 +133,12 @@ mod tests {
         let [a, b, c, d, e] = table.each_mut().map(|word| word.as_mut_ptr());
         assert_eq!(unsafe { ffi::stazzumpi_read_tables(s, 1, a, 1, b, 1, c, 1, d, 1, e, 1, told, 4) }, 26 + 256 * 5);
         let n = nodes.as_ptr();
-        assert_eq!(
-            unsafe { ffi::stazzumpi_list_model(n, 4, n, 4, n, 4, n, 4, n, 4, s, 1, n, 4, s, 1, o, 2, told, 0) },
-            26 + 256
-        );
+        for list in [ffi::stazzumpi_list_model, ffi::stazzumpi_list_values] {
+            assert_eq!(
+                unsafe { list(n, 4, n, 4, n, 4, n, 4, n, 4, s, 1, n, 4, s, 1, o, 2, told, 0) },
+                26 + 256
+            );
+        }
         assert_eq!((out, nodes, stack, table), ([9; 2], [9; 4], [9; 1], [[9; 1]; 5]));
     }
 

@@ -1,10 +1,12 @@
-//! The listing of a model: what a solver's reply says of the variables and functions of the tables.
+//! The listing of a reply: what a solver's model says of the variables and functions of the tables, or what its reply to
+//! get-value says of the variables.
 //!
 //! ```
 //! let tables = b"sort=bool\nsort=bitvec 8\nsort=option 1\nvar=x 2\nfun=f 1 0\n";
 //! let reply = b"((define-fun x () (Option (_ BitVec 8)) (some #xfF)))";
 //! let listing = stazzumpi::models::list(tables, reply, 10_000)?; // in at most 10,000 bytes
 //! assert_eq!(listing, b"vars=1\nfuns=0\nvar=x\nsort=2\nvalue=some(bv8:ff)\n");
+//! assert_eq!(stazzumpi::models::values(tables, b"((x (some #xfF)))", 10_000)?, listing); // what (get-value (x)) gave
 //! # Ok::<(), stazzumpi::Refusal>(())
 //! ```
 
@@ -30,7 +32,20 @@ pub fn list_model(tables: &Tables<'_>, nodes: &[u64], text: &[u8], out: &mut [u8
     Ok(length)
 }
 
-/// The listing of a reply over the tables that a text spells, read and listed in memory of its own;
+/// The listing of a reply to get-value, a list of pairs of a name and a value, as that of a model without functions. The
+/// value of a name that is in the variable table has to be of the sort that the table gives it; a pair with any other name,
+/// a function's too, is skipped and its value not read; a later pair replaces an earlier one, which is checked as well. All
+/// else is as [`list_model`] has it.
+///
+/// Refusals: 25, 27, 13 for a tree that is no list, that of the first pair that has one (13 for its shape, then 4, 7, 8, 14
+/// to 20, 22 to 24, 28 for its value, then 16 for another sort), 26 with the need where `out` is too short.
+pub fn list_values(tables: &Tables<'_>, nodes: &[u64], text: &[u8], out: &mut [u8]) -> Result<usize, Refusal> {
+    let Tables { sorts, fields, variables, functions, members, names } = *tables;
+    let [length] = call!(stazzumpi_list_values(sorts, fields, variables, functions, members, names, nodes, text; out))?;
+    Ok(length)
+}
+
+/// The listing of a model over the tables that a text spells, read and listed in memory of its own;
 /// [`Listing`](crate::listings::Listing) takes it apart.
 ///
 /// `limit` is how many bytes its rooms may have together at any time. Just enough are 40 for each row of the tables, 8 for
@@ -45,6 +60,19 @@ pub fn list_model(tables: &Tables<'_>, nodes: &[u64], text: &[u8], out: &mut [u8
 ///
 /// It takes as much of the stack as these calls do, one after the other.
 pub fn list(tables: &[u8], reply: &[u8], limit: usize) -> Result<Vec<u8>, Refusal> {
+    listed(list_model, tables, reply, limit)
+}
+
+/// The listing of a reply to get-value over the tables that a text spells, read and listed in memory of its own: as
+/// [`list`], with [`list_values`] for [`list_model`].
+pub fn values(tables: &[u8], reply: &[u8], limit: usize) -> Result<Vec<u8>, Refusal> {
+    listed(list_values, tables, reply, limit)
+}
+
+/// One of the two calls: tables, nodes, text and room.
+type Call = fn(&Tables<'_>, &[u64], &[u8], &mut [u8]) -> Result<usize, Refusal>;
+
+fn listed(call: Call, tables: &[u8], reply: &[u8], limit: usize) -> Result<Vec<u8>, Refusal> {
     let mut budget = Budget::new(limit);
     // a table without place has an empty room: the library says whether the text is lawful, and what is needed
     let [mut sorts, mut fields, mut variables, mut functions, mut members] =
@@ -53,7 +81,7 @@ pub fn list(tables: &[u8], reply: &[u8], limit: usize) -> Result<Vec<u8>, Refusa
     let tree = Parsed::within(reply, &mut budget)?;
     let mut out = budget.at_most(reply.len()); // a guess, for most listings enough
     loop {
-        match list_model(&tables, tree.nodes(), tree.text(), &mut out) {
+        match call(&tables, tree.nodes(), tree.text(), &mut out) {
             Ok(length) => {
                 out.truncate(length);
                 return Ok(out);

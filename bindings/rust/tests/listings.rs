@@ -1,9 +1,9 @@
-//! Listings: document 01's sample, refusals, rooms, document 01's answers from vectors/, and the real replies.
+//! Listings, of models and of replies to get-value: document 01's sample, refusals, rooms, the answers from vectors/, and the real replies.
 
 use std::fs;
 use std::thread;
 
-use stazzumpi::models::{self, list_model};
+use stazzumpi::models::{self, list_model, list_values};
 use stazzumpi::tables::Tables;
 use stazzumpi::{parse_sexpr, Refusal, NODE_WORDS};
 
@@ -30,18 +30,26 @@ fn with<R>(tables: &[u8], reply: &[u8], then: impl FnOnce(&Tables<'_>, &[u64], &
     then(&tables, &nodes, &text)
 }
 
-/// A listing in a room that is just its need, in one that is larger and in one that is a byte short, marked on all sides.
+type Whole = fn(&[u8], &[u8], usize) -> Result<Vec<u8>, Refusal>;
+type Call = fn(&Tables<'_>, &[u64], &[u8], &mut [u8]) -> Result<usize, Refusal>;
+
+/// A model's listing in its rooms.
 fn in_rooms(tables: &[u8], reply: &[u8], listing: &[u8], need: usize) {
+    in_rooms_by(list_model, tables, reply, listing, need);
+}
+
+/// A listing in a room that is just its need, in one that is larger and in one that is a byte short, marked on all sides.
+fn in_rooms_by(call: Call, tables: &[u8], reply: &[u8], listing: &[u8], need: usize) {
     with(tables, reply, |tables, nodes, text| {
         for spare in [0, 5] {
             let mut out = vec![7; 3 + need + spare + 3];
-            let length = list_model(tables, nodes, text, &mut out[3..3 + need + spare]);
+            let length = call(tables, nodes, text, &mut out[3..3 + need + spare]);
             assert_eq!(length, Ok(listing.len()));
             assert_eq!(out, [&[7; 3], listing, &vec![0; need - listing.len()], &[7; 3], &vec![7; spare]].concat());
         }
         let mut out = vec![7; 3 + need];
         for short in [&mut out[3..need + 2], &mut []] {
-            assert_eq!(list_model(tables, nodes, text, short), Err(Refusal::OutRoom(need)));
+            assert_eq!(call(tables, nodes, text, short), Err(Refusal::OutRoom(need)));
         }
         assert_eq!(out, vec![7; 3 + need]);
     });
@@ -118,20 +126,60 @@ fn deepest() {
     assert_eq!(listed.expect("room on the stack"), Ok(listing.into_bytes()));
 }
 
-/// Words that nobody read: the tables' rules first, then the arena's, then the root; nothing is written.
+/// Words that nobody read, to both calls: the tables' rules first, then the arena's, then the root; nothing is written.
 #[test]
 fn words_refused() {
     let wrong = Tables { sorts: &[0, 0, 7, 0, 0], ..Tables::default() }; // an option of itself
     let lawful = Tables::default();
-    let mut out = [7; 32];
-    assert_eq!(list_model(&wrong, &[], &[], &mut out), Err(Refusal::BadTable));
-    assert_eq!(list_model(&lawful, &[], &[], &mut out), Err(Refusal::BadArena));
-    assert_eq!(list_model(&lawful, &[5, 1, 1, 0], &[], &mut out), Err(Refusal::BadArena));
-    assert_eq!(list_model(&lawful, &[4, 1, 0, 0], b"a", &mut out), Err(Refusal::UnexpectedModel));
-    assert_eq!(list_model(&lawful, &[5, 0, 1, 0], &[], &mut out[..13]), Err(Refusal::OutRoom(14)));
-    assert_eq!(out, [7; 32]);
-    assert_eq!(list_model(&lawful, &[5, 0, 1, 0], &[], &mut out[..14]), Ok(14));
-    assert_eq!((&out[..14], &out[14..]), (&b"vars=0\nfuns=0\n"[..], &[7; 18][..]));
+    for call in [list_model, list_values] as [Call; 2] {
+        let mut out = [7; 32];
+        assert_eq!(call(&wrong, &[], &[], &mut out), Err(Refusal::BadTable));
+        assert_eq!(call(&lawful, &[], &[], &mut out), Err(Refusal::BadArena));
+        assert_eq!(call(&lawful, &[5, 1, 1, 0], &[], &mut out), Err(Refusal::BadArena));
+        assert_eq!(call(&lawful, &[4, 1, 0, 0], b"a", &mut out), Err(Refusal::UnexpectedModel));
+        assert_eq!(call(&lawful, &[5, 0, 1, 0], &[], &mut out[..13]), Err(Refusal::OutRoom(14)));
+        assert_eq!(out, [7; 32]);
+        assert_eq!(call(&lawful, &[5, 0, 1, 0], &[], &mut out[..14]), Ok(14));
+        assert_eq!((&out[..14], &out[14..]), (&b"vars=0\nfuns=0\n"[..], &[7; 18][..]));
+    }
+}
+
+/// Replies to get-value over `tables`: each with its listing's lines behind `funs=0`, or with its refusal.
+#[test]
+fn values_of_pairs() {
+    let tables = b"sort=bool\nsort=bitvec 1\nsort=set 0\nvar=b 0\nvar=s 2\nfun=f 0 0\n";
+    let lists = |reply: &str, vars: usize, lines: &str, more: usize| {
+        let listing = format!("vars={vars}\nfuns=0\n{lines}").into_bytes();
+        assert_eq!(models::values(tables, reply.as_bytes(), usize::MAX).as_ref(), Ok(&listing), "{reply}");
+        in_rooms_by(list_values, tables, reply.as_bytes(), &listing, listing.len() + more);
+    };
+    lists("()", 0, "", 0);
+    lists("((b true))", 1, "var=b\nsort=0\nvalue=true\n", 0);
+    lists("((b true) (b false))", 1, "var=b\nsort=0\nvalue=false\n", 0); // the later one
+    lists("((z z) (f z) (|b| z))", 0, "", 0); // unread: no variable, a function, a name with bars
+    lists("((s (set.union (set.singleton true) (set.singleton true))) (b true))", 2,
+        "var=b\nsort=0\nvalue=true\nvar=s\nsort=2\nvalue={true}\n", 5); // in table order; `,true` is in the need
+    let samples: [(&str, Refusal); 13] = [
+        ("b", Refusal::UnexpectedModel),
+        ("(b true)", Refusal::UnexpectedModel),
+        ("((b))", Refusal::UnexpectedModel),
+        ("((z z z))", Refusal::UnexpectedModel), // a shape is looked at before a name
+        ("((7 true))", Refusal::UnexpectedModel),
+        ("(((b) true))", Refusal::UnexpectedModel),
+        ("((define-fun b () Bool true))", Refusal::UnexpectedModel),
+        ("((b z) x)", Refusal::UnknownLiteral), // the first pair's comes first
+        ("((b z) (b true))", Refusal::UnknownLiteral), // one that is replaced is checked
+        ("((b #b1))", Refusal::UnmatchedType),
+        ("((b (_ bv0 0)))", Refusal::ZeroWidthBitVec),
+        ("((s (set.singleton #b1)))", Refusal::NoSortRow),
+        ("((b true)", Refusal::UnclosedSExpr), // the reader's
+    ];
+    for (reply, refusal) in samples {
+        assert_eq!(models::values(tables, reply.as_bytes(), usize::MAX), Err(refusal), "{reply}");
+    }
+    assert_eq!(models::list(tables, b"((b true))", usize::MAX), Err(Refusal::UnexpectedModel)); // no model
+    assert_eq!(models::values(b"sort=bool", b"()", usize::MAX), Err(Refusal::BadTable));
+    assert_eq!(models::values(tables, b"()", 0), Err(Refusal::OutRoom(15)));
 }
 
 fn bytes(hex: &str) -> Vec<u8> {
@@ -147,7 +195,10 @@ fn as_document_01_has_it() {
     for (case, answer) in cases.zip(answers) {
         let fields: Vec<&str> = case.split(' ').collect();
         let (tables, reply) = (bytes(fields[1]), bytes(fields[2]));
-        let got = list(&tables, &reply);
+        // a small letter is of a reply to get-value
+        let values = fields[0].starts_with(|letter: char| letter.is_lowercase());
+        let (whole, call): (Whole, Call) = if values { (models::values, list_values) } else { (models::list, list_model) };
+        let got = whole(&tables, &reply, usize::MAX);
         if let Some(refused) = answer.strip_prefix("refused=") {
             let number: u8 = refused.lines().next().and_then(|number| number.parse().ok()).expect("a number");
             if ![9, 10, 11, 12, 26, 27].contains(&number) {
@@ -157,7 +208,7 @@ fn as_document_01_has_it() {
             let (listing, rooms) = answer.split_at(answer.rfind("need=").expect("a need"));
             assert_eq!(got.as_deref(), Ok(listing.as_bytes()), "{case}");
             let need = rooms["need=".len()..].lines().next().and_then(|need| need.parse().ok()).expect("a number");
-            in_rooms(&tables, &reply, listing.as_bytes(), need);
+            in_rooms_by(call, &tables, &reply, listing.as_bytes(), need);
         }
     }
 }
