@@ -10,11 +10,13 @@ tidy:
 	python3 tools/tidy.py
 	python3 tools/deps.py --write
 
-# The listing of a solver's reply REPLY over the tables TABLES. Proves the program first, where it is not proved yet. Needs the toolchain.
+# The listing of a solver's model REPLY over the tables TABLES; with PROGRAM=valuelist, of its reply to get-value. Proves the program
+# first, where it is not proved yet. Needs the toolchain.
+PROGRAM ?= modellist
 list:
 	@mkdir -p target/list && cp "$(TABLES)" target/list/tables.txt
-	@rt check modellist > target/list/check.log 2>&1 || { cat target/list/check.log; exit 1; }
-	@reply="$(abspath $(REPLY))" && cd target/list && sh ../../tools/run.sh modellist < "$$reply"
+	@rt check $(PROGRAM) > target/list/check.log 2>&1 || { cat target/list/check.log; exit 1; }
+	@reply="$(abspath $(REPLY))" && cd target/list && sh ../../tools/run.sh $(PROGRAM) < "$$reply"
 
 # What C and Rust link, target/staticlib/libstazzumpi.a, for this machine. Needs the toolchain, which compiles for x86-64 alone;
 # elsewhere tools/native.sh has the same module compiled for the machine. NATIVE=1 goes that way on x86-64 too.

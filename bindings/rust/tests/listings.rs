@@ -172,7 +172,7 @@ fn values_of_pairs() {
         ("((b #b1))", Refusal::UnmatchedType),
         ("((b (_ bv0 0)))", Refusal::ZeroWidthBitVec),
         ("((s (set.singleton #b1)))", Refusal::NoSortRow),
-        ("((b true)", Refusal::UnclosedSExpr), // the reader's
+        ("((b true)", Refusal::UnexpectedEnd), // the reader's
     ];
     for (reply, refusal) in samples {
         assert_eq!(models::values(tables, reply.as_bytes(), usize::MAX), Err(refusal), "{reply}");

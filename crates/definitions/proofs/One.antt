@@ -9,7 +9,7 @@ use Rattle.tables.specs.Layout.{Lent}
 use Rattle.shapes.specs.Shows.{Standing, Reads}
 use Rattle.literals.specs.Plan.{Given}
 use Rattle.definitions.specs.declared.measure.Measured.{Measured}
-use Rattle.definitions.specs.Measure.{VariableAt, FunctionAt}
+use Rattle.definitions.specs.Measure.{ValueAt, VariableAt, FunctionAt}
 
 module _ (sorts fields members names ws ts : List ℕ) where
   abbrev lent : Lent
@@ -17,6 +17,10 @@ module _ (sorts fields members names ws ts : List ℕ) where
 
   given : Given sorts fields members names lent
   given = record { sorts-are = refl; fields-are = refl; members-are = refl; names-are = refl }
+
+  pub one-value-need : (row value : ℕ) (t : Tree) (m n : Measured) → Standing t ws ts value →
+      ValueAt sorts fields members names ws ts row value m → ValueAt sorts fields members names ws ts row value n → m ≡ n
+  one-value-need row value t m n a p q = one-result (p lent given t a) (q lent given t a)
 
   pub one-variable-need : (declared sort value : ℕ) (s t : Tree) (m n : Measured) → Standing s ws ts sort → Standing t ws ts value →
       VariableAt sorts fields members names ws ts declared sort value m → VariableAt sorts fields members names ws ts declared sort value n → m ≡ n
