@@ -163,7 +163,7 @@ def smallest(case):
 def fixed():
     """The vectors' list, the differences and doubts one by one, every real reply of a model, models at the edge of nesting."""
     for line in rows(files("listings")[0]):
-        if line[0] not in listed.VALUES:
+        if line[0].isupper():
             yield Case(*listed.parts(line)[1:])
     groups = (known.DIFFERING, readings.DOUBTS, repeats.REPEATS)
     for short, model in [*listings.EDGES, *(pair for group in groups for pair in known.pairs(group)), *levels.refused(), *levels.listed()]:
