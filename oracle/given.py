@@ -21,7 +21,7 @@ from reading import Arena, Refused  # noqa: E402
 
 
 def spelled(node):
-    """A node of the second reading's tree as nodes of tokens."""
+    """A node of the second reading's tree in lists of tokens."""
     if isinstance(node, list):
         return [spelled(part) for part in node]
     kind, what, *width = node
@@ -32,40 +32,26 @@ def spelled(node):
     return what if kind == 4 else b'"%s"' % b"".join(b"\\u{%x}" % ord(letter) for letter in what.decode())
 
 
-class Sorts:
-    """The sorts of tables as a model writes them."""
-
-    def __init__(self, tables):
-        self.tables = walk.Tables(tables, frozenset())
-        self.names = {sort: name for name, sort in [*walk.PLAIN.items(), *self.tables.named.items()]}
-
-    def written(self, sort):
-        kind, *parts = sort
-        if kind == "bitvec":
-            return [b"_", b"BitVec", b"%d" % parts[0]]
-        if kind in ("option", "set"):
-            return [kind.capitalize().encode(), self.written(parts[0])]
-        return self.names[sort]
-
-    def of(self, name):
-        """The sort of a name; any will do for one that is skipped."""
-        row = self.tables.vars.get(name)
-        return b"Zork" if row is None else self.written(self.tables.sorts[row])
+def command(tables, part):
+    """The definition that says what a pair says, its sort any where the name is to be skipped; what is no pair is no command."""
+    if not isinstance(part, list) or len(part) != 2 or not walk.is_symbol(part[0]):
+        return []
+    name, value = spelled(part)
+    row = tables.vars.get(name)
+    return [b"define-fun", name, [], b"Zork" if row is None else tables.written(tables.sorts[row]), value]
 
 
 def image(case):
-    """The model that says what a reply to get-value says: a definition for each pair, and no command for anything else. What is no list, what
-    the reader refuses and what stands over unlawful tables is its own."""
+    """The model that says what a reply to get-value says. What is no list, what the reader refuses and what stands over unlawful tables is
+    its own."""
     try:
         root = walk.tree(Arena(case.reply))
     except Refused:
         return case
     if unlawful(case.tables) or not isinstance(root, list):
         return case
-    sorts = Sorts(case.tables)
-    pairs = [spelled(part) if isinstance(part, list) and len(part) == 2 and walk.is_symbol(part[0]) else None for part in root]
-    commands = [[b"define-fun", pair[0], [], sorts.of(pair[0]), pair[1]] if pair else [] for pair in pairs]
-    return Case(case.tables, models.written(commands))
+    tables = walk.Tables(case.tables, frozenset())
+    return Case(case.tables, models.written([command(tables, part) for part in root]))
 
 
 def wanted(case):

@@ -70,6 +70,15 @@ class Tables:
         sort = self.sorts[int(row)]
         self.enums[name.encode()] = plain(sort, f"e{sort[1]}:{text.encode().hex()}")
 
+    def written(self, sort):
+        """A sort as a model writes it, in lists of tokens."""
+        kind, *parts = sort
+        if kind == "bitvec":
+            return [b"_", b"BitVec", b"%d" % parts[0]]
+        if kind in ("option", "set"):
+            return [kind.capitalize().encode(), self.written(parts[0])]
+        return next(name for name, known in {**PLAIN, **self.named}.items() if known == sort)
+
 
 def tree(arena):
     """The reader's tree: an application is a list, an atom a tuple."""

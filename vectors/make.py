@@ -101,10 +101,12 @@ def value_ranges(rng):
     drawn = [listed.case("m", *values.random_case(rng)) for _ in range(VALUES_DRAWN)]
     damaged = [(tables, values.damaged(rng, reply)) for tables, reply in (rng.choice(replies) for _ in range(VALUES_DRAWN))]
     return [
-        ("replies to get-value, document 02's R-1: edges of its rules", in_rooms("m", values.pairs())),
+        ("replies to get-value, document 02's R-1: edges of its rules", in_rooms("m", known.pairs(values.EDGES))),
         ("replies to get-value nested to levels 1,023 and 1,024", in_rooms("l", values.nested())),
-        ("replies to get-value: refused tables, what the reader refuses, what is not lent", [listed.case(*parts) for parts in values.before_the_walk()]),
-        ("replies to get-value: the rooms just full and short by one, and a reply that is too long", [listed.case(*parts) for parts in values.rooms()]),
+        ("replies to get-value: refused tables, what the reader refuses, what is not lent",
+         [listed.case(*parts) for parts in values.before_the_walk()]),
+        ("replies to get-value: the rooms just full and short by one, and a reply that is too long",
+         [listed.case(*parts) for parts in values.rooms()]),
         ("the real replies to get-value", [listed.case("m", *parts) for parts in replies]),
         ("random tables and replies to get-value, a few for each answer, by the seed", few(drawn)),
         ("damaged copies of real replies to get-value, a few for each answer, by the seed",

@@ -2,12 +2,12 @@
 
 from cases import levels, limits, listed, models, trees, wider
 from cases.levels import DEEPEST, SHORT, records
+from cases.limits import BAD, PLAIN
 from cases.listings import ONE_BOOL, OPTIONS, VECTOR, tables
 from cases.readings import NAMES_OF_OPERATORS
 from cases.repeats import A, B, bytes_of, left, single, union
 from cuts import tree
 
-PLAIN = limits.PLAIN
 GIVEN = b"((b true))"
 # A fault of the reader's in a pair that is asked for and in one that is skipped, and around the pairs.
 UNREAD = [b'((b true) (z "\\ud800"))', b"((z #b))", b"((z \xff))", b"((b true)", b"((b true)))", b'((b true) "', b"((b #))", b")((b true))",
@@ -57,8 +57,8 @@ EDGES = [
         "((x ((as some (Option Bool)) true)))", "((x none))", "((y (some (as none (Option Bool)))))", "((y (some (some true))))", "((y (some none)))",
         "((x (some (some true))))", "((y (some true)))", "((x (as none (Option (Option Bool)))))", "((x ((as some (Option (Option Bool))) true)))"]),
     # 4, 7 and 8 in a vector and in a sort
-    (VECTOR, given("x", "(_ bv15 8)", "(_ bv+15 8)", "(_ bv15 4)", "#xf", "(_ bv256 8)", "(_ bv256 4294967296)", "(_ bv256 0)", "(_ bvx 0)", "(_ bv 8)",
-                   "(_ bv340282366920938463463374607431768211456 8)", "(_ bv1 #x8)", f"#b0{'1' * 128}")),
+    (VECTOR, given("x", "(_ bv15 8)", "(_ bv+15 8)", "(_ bv15 4)", "#xf", "(_ bv256 8)", "(_ bv256 4294967296)", "(_ bv256 0)", "(_ bvx 0)",
+                   "(_ bv 8)", "(_ bv340282366920938463463374607431768211456 8)", "(_ bv1 #x8)", f"#b0{'1' * 128}")),
     (ONE_BOOL, given("b", "(as none (_ BitVec 0))", "(as none (_ BitVec 4294967296))", "(as none (Option (_ BitVec 0)))")),
     # 14, 16, 19, 20, 23 and 28, and the words of no value
     ("bool; option 0; set 0; var b 0; var x 1", [
@@ -71,7 +71,7 @@ EDGES = [
     # 17 and 18
     ("bool; string; record R 0 1; var x 2", given("x", "(R true)", '(R "a" true)', "(R zork)", "(R)", "(R true true)", "(R (R true zork) zork)")),
     # 22 where the parts fit, else 15
-    (ONE_BOOL, given("b", *(f"({name}{' zork' * count})" for name in NAMES_OF_OPERATORS for count in (1, 2)))),
+    (ONE_BOOL, given("b", *(f"({name}{' zork' * count})" for name in NAMES_OF_OPERATORS for count in (1, 2)), "(ite zork zork zork)")),
     # repeated members count in the need, those of a pair that is replaced do not
     (SETS, [
         *given("x", union(B, A, B), left(A, A, A)), f"((x {union(A, A, B)}) (x {single(B)}))", f"((x {single(B)}) (x {union(A, A, B)}))",
@@ -79,16 +79,12 @@ EDGES = [
 ]
 
 
-def pairs():
-    return [(short, reply) for short, replies in EDGES for reply in replies]
-
-
 def nested():
     """Level 1,023 of a value is read, level 1,024 is 24; each pair begins anew, and what is skipped may be deeper."""
     deep, deeper = records("true", DEEPEST), records("true", DEEPEST + 1)
     sort = levels.nested("(Option", " Bool", ")", DEEPEST - 1)
-    replies = [*given("x", deep, deeper, records("zork", DEEPEST + 1), f"(as none {sort})", f"(as none (Option{sort}))"), f"((x (R true)) (x {deeper}))",
-               f"((z {records('true', DEEPEST + SHORT)}) (x (R true)))"]
+    replies = [*given("x", deep, deeper, records("zork", DEEPEST + 1), f"(as none {sort})", f"(as none (Option{sort}))"),
+               f"((x (R true)) (x {deeper}))", f"((z {records('true', DEEPEST + SHORT)}) (x (R true)))"]
     return [("bool; record R 0; var x 1", reply) for reply in replies]
 
 
@@ -107,7 +103,7 @@ def before_the_walk():
         found += [("m", tables(f"{ONE_BOOL}; {rows}").encode(), reply) for reply in (GIVEN, b"x")]
     found += [("m", PLAIN, reply) for reply in UNREAD]
     found += [(letter, PLAIN, reply) for letter in "ntso" for reply in (GIVEN, b"((b true) (b false))", b"()", b"((b z))", b"b", b"((b)")]
-    found += [(letter, limits.BAD, GIVEN) for letter in "ntso"] + [("a", PLAIN, GIVEN)]
+    found += [(letter, BAD, GIVEN) for letter in "ntso"] + [("a", PLAIN, GIVEN)]
     return found
 
 
