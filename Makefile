@@ -92,18 +92,21 @@ confirm: oracle
 	python3 oracle/confirm.py
 
 # Sets our library beside the Rust: in one process on millions of strings, readings and script lines, then model by model, whole, with
-# counts by answer and by difference met; and the Rust's answers beside a second reading of document 01. SEED may be given; TIMES, for
-# so many times the inputs; COUNT, for so many cases of each kind for the second reading; MODELS, for so many models compared whole.
+# counts by answer and by difference met; and the Rust's answers beside a second reading of document 01. Then replies to get-value beside
+# a second reading of document 02's R-1, and beside the Rust as models. SEED may be given; TIMES, for so many times the inputs; COUNT, for
+# so many cases of each kind for the second reading; MODELS, for so many models compared whole; VALUES, for so many replies to get-value.
 SEED ?= 2026
 TIMES ?= 1
 COUNT ?= 20000
 MODELS ?= 100000
+VALUES ?= 100000
 STACK := 4294967296
 compare: oracle library
 	$(MAKE) -C oracle ours
 	find vectors/replies -name '*.model.txt' | sort | target/oracle/ours/release/oracle compare $(STACK) $(SEED) $(TIMES)
 	python3 oracle/compare.py $(SEED) $(COUNT)
 	python3 oracle/beside.py $(SEED) $(MODELS)
+	python3 oracle/given.py $(SEED) $(VALUES)
 
 # Times our library, the crate and a plain C reader on the same inputs, in one run, and writes docs/BENCH.md and docs/bench.svg (on Arm
 # docs/BENCH-aarch64.md and docs/bench-aarch64.svg).

@@ -94,12 +94,16 @@ def judged(case, mine, crate):
     return Judged(None, kind, followed.met, "alike" if crate == plain.told else "apart")
 
 
-def asked(cases):
-    """All cases judged; the crate is asked over lawful tables only, for it has no rules for them."""
+def by_the_crate(cases):
+    """The crate's answers, None where it is not asked: over tables that are unlawful, for it has no rules for them."""
     lawful = {place for place, case in enumerate(cases) if not unlawful(case.tables)}
     crate = iter(answers("listings", [cases[place].line() for place in sorted(lawful)]))
-    crate = [next(crate) if place in lawful else None for place in range(len(cases))]
-    return [judged(*three) for three in zip(cases, ours([case.line() for case in cases]), crate)]
+    return [next(crate) if place in lawful else None for place in range(len(cases))]
+
+
+def asked(cases):
+    """All cases judged."""
+    return [judged(*three) for three in zip(cases, ours([case.line() for case in cases]), by_the_crate(cases))]
 
 
 class Tally:
@@ -132,7 +136,7 @@ def whole(found):
     return "whole" if not found.met else "alike" if found.stands == "alike" else "apart"
 
 
-def tallied(cases):
+def tallied(cases, asked=asked):
     """The tally of cases. Where the crate is not followed, the same model without that command is a case of its own."""
     tally = Tally()
     while cases:
@@ -146,8 +150,8 @@ def tallied(cases):
     return tally
 
 
-def smallest(case):
-    """The smallest model that is found by leaving out parts of one that is wrong, as long as it is wrong; and what is wrong with it."""
+def smallest(case, asked):
+    """The smallest reply that is found by leaving out parts of one that is wrong, as long as it is wrong; and what is wrong with it."""
     while True:
         tries = [Case(*parts) for parts in smaller(case.tables, case.reply)]
         for at in range(0, len(tries), TRIED):
@@ -163,7 +167,7 @@ def smallest(case):
 def fixed():
     """The vectors' list, the differences and doubts one by one, every real reply of a model, models at the edge of nesting."""
     for line in rows(files("listings")[0]):
-        if line[0] not in listed.VALUES:
+        if line[0].isupper():
             yield Case(*listed.parts(line)[1:])
     groups = (known.DIFFERING, readings.DOUBTS, repeats.REPEATS)
     for short, model in [*listings.EDGES, *(pair for group in groups for pair in known.pairs(group)), *levels.refused(), *levels.listed()]:
@@ -195,7 +199,7 @@ def batch(numbers):
     return roomy(lambda: tallied([drawn(rng, replies) for _ in range(BATCH)]))
 
 
-def printed(what, tally):
+def printed(what, tally, asked=asked):
     """The counts of a tally; gives back whether something is wrong."""
     print(f"{what}: {tally.count} models, {tally.whole()} of them compared whole; wrong: {len(tally.faults)}")
     kinds = sorted({kind for kind, _ in tally.kinds}, key=lambda kind: (len(kind.split("=")), int(kind.partition("=")[2] or 0)))
@@ -207,7 +211,7 @@ def printed(what, tally):
         alike, apart, lost, alone = (tally.met[way, stands] for stands in ("alike", "apart", "not followed", "no crate"))
         print(f"  {way:<12}{alike:>18}{apart:>9}{lost:>16}{alone:>12}", flush=True)
     for case, fault in sorted(tally.faults, key=lambda one: len(one[0].line()))[:SHOWN]:
-        small, why = smallest(case)
+        small, why = smallest(case, asked)
         print(f"DIFFERENCE\n{shown(why or fault)[:2000]}\ntables:\n{small.tables.decode('utf-8', 'backslashreplace')}reply: {small.reply!r}\n"
               f"case: {small.line()}\nfound first as: {case.line()[:4000]}")
     return bool(tally.faults)

@@ -2,101 +2,120 @@
 """Sets our library's listing of replies to get-value beside document 02's R-1 read a second time (walk.py), and beside the crate.
 
 Usage: given.py [SEED [COUNT]]     (the vectors' cases, every real reply to get-value, then COUNT replies drawn by the seed)
-The crate has no such reader: where every part is a pair, it is asked for the model that says the same of the tables' variables
-(cases/values.py), and its answer has to be ours where that model meets none of the differences that docs/DIFFERENCES.md lists. Prints
-counts by our answer. Ends with 1 on anything else.
+Our answer has to be the second reading's, with its need or detail. The crate has no such reader: a reply's image is the model that says the
+same, of which our listing has to be that of the reply; the crate is asked for the image, and beside.py judges its answer. Prints counts by
+our answer and by difference. Ends with 1 on anything else, with the smallest reply that is found.
 """
 
 import random
 import sys
-from collections import Counter
+from multiprocessing import Pool
 
 sys.dont_write_bytecode = True
 import walk  # noqa: E402
-from asking import ROOT, answers, ours, with_room  # noqa: E402
-
-VECTORS = ROOT / "vectors"
-sys.path.append(str(VECTORS))
-from cases import listed, listings, models, values  # noqa: E402
+from asking import ours, roomy, with_room  # noqa: E402
+from beside import BATCH, SMALL, VECTORS, WORKERS, Case, Judged, Tally, by_the_crate, judged, printed, tallied, told, unlawful  # noqa: E402
+from cases import listed, models, values, wider  # noqa: E402
 from lists import files, rows  # noqa: E402
 from reading import Arena, Refused  # noqa: E402
 
-BATCH, SHOWN = 2_500, 3
+
+def spelled(node):
+    """A node of the second reading's tree in lists of tokens."""
+    if isinstance(node, list):
+        return [spelled(part) for part in node]
+    kind, what, *width = node
+    if kind == 1:
+        return b"#b" + f"{what % 2 ** width[0]:0{width[0]}b}".encode()
+    if kind == 2:
+        return b"%d" % what
+    return what if kind == 4 else b'"%s"' % b"".join(b"\\u{%x}" % ord(letter) for letter in what.decode())
 
 
-def wanted(tables, reply):
-    """Document 02's answer as our library is asked to give it."""
+def command(tables, part):
+    """The definition that says what a pair says, its sort any where the name is to be skipped; what is no pair is no command."""
+    if not isinstance(part, list) or len(part) != 2 or not walk.is_symbol(part[0]):
+        return []
+    name, value = spelled(part)
+    row = tables.vars.get(name)
+    return [b"define-fun", name, [], b"Zork" if row is None else tables.written(tables.sorts[row]), value]
+
+
+def image(case):
+    """The model that says what a reply to get-value says. What is no list, what the reader refuses and what stands over unlawful tables is
+    its own."""
     try:
-        found = walk.walked(tables, Arena(reply), values=True)
-    except Refused as refusal:
-        return f"{refusal} detail=0"
-    return f"listing={found.listing().encode().hex()} need={len(found.listing(True).encode())}"
+        root = walk.tree(Arena(case.reply))
+    except Refused:
+        return case
+    if unlawful(case.tables) or not isinstance(root, list):
+        return case
+    tables = walk.Tables(case.tables, frozenset())
+    return Case(case.tables, models.written([command(tables, part) for part in root]))
+
+
+def wanted(case):
+    """Document 02's answer as our library is asked to give it."""
+    refusal = unlawful(case.tables)
+    return f"{refusal} detail=0" if refusal else told(walk.Model(case.tables, case.reply, values=True).answer())
+
+
+def asked(cases):
+    """All replies judged."""
+    images = [image(case) for case in cases]
+    mine, same = (ours(lines) for lines in ([f"V {case.line()}" for case in cases], [case.line() for case in images]))
+    found = []
+    for case, model, got, of_model, crate in zip(cases, images, mine, same, by_the_crate(images)):
+        want = wanted(case)
+        if got != want:
+            found.append(Judged(f"ours {got}\ndocument 02 {want}", got))
+        elif got != of_model:
+            found.append(Judged(f"ours {got}\nours of its image {of_model}\nthe image: {model.reply!r}", got))
+        else:
+            found.append(judged(model, of_model, crate))
+    return found
+
+
+def real():
+    """The real replies to get-value, over the tables of their folders."""
+    return [Case((path.parent / "tables.txt").read_bytes(), path.read_bytes()) for path in sorted(VECTORS.glob("replies/**/*.value.txt"))]
 
 
 def fixed():
-    """The vectors' cases over lawful tables, and the real replies; nothing is known of the model that says the same."""
-    for short, reply in values.pairs():
-        yield listings.tables(short).encode(), reply.encode(), None
-    for line in rows(files("listings")[0]):
-        letter, tables, reply = listed.parts(line)
-        if letter in listed.VALUES:
-            yield tables, reply, None
-    for path in sorted(VECTORS.glob("replies/**/*.value.txt")):
-        yield (path.parent / "tables.txt").read_bytes(), path.read_bytes(), None
+    return [Case(*listed.parts(line)[1:]) for line in rows(files("listings")[0]) if line[0].islower()] + real()
 
 
-def drawn(rng):
-    tables, told = values.random_case(rng)
-    return tables.text(), models.written(told), values.as_model(tables, told)
+def drawn(rng, replies):
+    """One reply by chance: a damaged real one, or one of random tables; now and then these break a rule, or the reader refuses it."""
+    if not rng.randrange(8):
+        case = rng.choice(replies)
+        return case._replace(reply=values.damaged(rng, case.reply))
+    tables, reply = values.random_case(rng)
+    return Case(tables if rng.randrange(80) else wider.unlawful(rng, tables), reply if rng.randrange(40) else wider.broken(rng, reply))
 
 
-def judged(cases):
-    """What is wrong with each case, or None; our answer; and whether the crate's was the same, `apart` by a listed difference, or not asked."""
-    mine = ours([f"V {tables.hex()} {reply.hex()}" for tables, reply, _ in cases])
-    asked = [place for place, case in enumerate(cases) if case[2] is not None]
-    lines = [f"{cases[place][0].hex()} {cases[place][2].hex()}" for place in asked]
-    crate = dict(zip(asked, answers("listings", lines)))
-    for place, ((tables, reply, model), got) in enumerate(zip(cases, mine)):
-        want = wanted(tables, reply)
-        if got != want:
-            yield f"ours {got}\ndocument 02 {want}", got, "wrong"
-        elif place not in crate:
-            yield None, got, "not asked"
-        elif crate[place] == got.split(" ")[0]:
-            yield None, got, "alike"
-        elif walk.Model(tables, model).answer().met:
-            yield None, got, "apart"
-        else:
-            yield f"ours {got}\nthe crate, of the model that says the same, {crate[place]}", got, "wrong"
+def batch(numbers):
+    """The tally of one batch of drawn replies."""
+    seed, place, size = numbers
+    rng = random.Random(f"{seed} values {place}")
+    replies = [case for case in real() if len(case.reply) <= SMALL]
+    return roomy(lambda: tallied([drawn(rng, replies) for _ in range(size)], asked))
 
 
-def counted(cases, counts, faults):
-    for case, (fault, got, stands) in zip(cases, judged(cases)):
-        counts[got.split(" ")[0] if got.startswith("refused=") else "listing", stands] += 1
-        if fault:
-            faults.append((case, fault))
+def by_chance(pool, seed, count):
+    tally = Tally()
+    for some in pool.imap(batch, [(seed, place, min(BATCH, count - place)) for place in range(0, count, BATCH)]):
+        tally.take(some)
+    return tally
 
 
-def printed(what, counts, faults):
-    print(f"{what}: {sum(counts.values())} replies; wrong: {len(faults)}")
-    print("  our answer    the crate alike    apart    not asked")
-    for kind in sorted({kind for kind, _ in counts}, key=lambda kind: (len(kind.split("=")), int(kind.partition("=")[2] or 0))):
-        print(f"  {kind:<12}{counts[kind, 'alike']:>17}{counts[kind, 'apart']:>9}{counts[kind, 'not asked']:>13}")
-    for (tables, reply, _), fault in sorted(faults, key=lambda one: len(one[0][1]))[:SHOWN]:
-        print(f"DIFFERENCE\n{fault[:2000]}\ntables:\n{tables.decode('utf-8', 'backslashreplace')}reply: {reply!r}")
-    return bool(faults)
-
-
-def main():
-    seed, count = ([int(given) for given in sys.argv[1:]] + [2026, 20_000][len(sys.argv) - 1:])[:2]
-    counts, faults = Counter(), []
-    counted(list(fixed()), counts, faults)
-    wrong = printed("listed and real replies to get-value", counts, faults)
-    counts, faults, rng = Counter(), [], random.Random(f"{seed} values")
-    for _ in range(0, count, BATCH):
-        counted([drawn(rng) for _ in range(BATCH)], counts, faults)
-    return 1 if printed(f"replies to get-value of the seed {seed}", counts, faults) or wrong else 0
+def main(pool):
+    seed, count = ([int(given) for given in sys.argv[1:]] + [2026, 100_000][len(sys.argv) - 1:])[:2]
+    wrong = printed("images of the vectors' and the real replies to get-value", tallied(fixed(), asked), asked)
+    return 1 if printed(f"images of replies to get-value of the seed {seed}", by_chance(pool, seed, count), asked) or wrong else 0
 
 
 if __name__ == "__main__":
-    with_room(main)
+    # The workers are started before any thread.
+    with Pool(WORKERS) as workers:
+        with_room(lambda: main(workers))

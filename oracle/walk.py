@@ -70,6 +70,15 @@ class Tables:
         sort = self.sorts[int(row)]
         self.enums[name.encode()] = plain(sort, f"e{sort[1]}:{text.encode().hex()}")
 
+    def written(self, sort):
+        """A sort as a model writes it, in lists of tokens."""
+        kind, *parts = sort
+        if kind == "bitvec":
+            return [b"_", b"BitVec", b"%d" % parts[0]]
+        if kind in ("option", "set"):
+            return [kind.capitalize().encode(), self.written(parts[0])]
+        return next(name for name, known in {**PLAIN, **self.named}.items() if known == sort)
+
 
 def tree(arena):
     """The reader's tree: an application is a list, an atom a tuple."""
@@ -416,10 +425,10 @@ class Answer(NamedTuple):
 
 
 class Model:
-    """Tables and a reply, read once and walked with one set of ways after the other."""
+    """Tables and a reply, a model or one to get-value, read once and walked with one set of ways after the other."""
 
-    def __init__(self, tables, reply):
-        self.tables, self.root, self.refusal = tables, None, None
+    def __init__(self, tables, reply, values=False):
+        self.tables, self.values, self.root, self.refusal = tables, values, None, None
         try:
             self.root = tree(Arena(reply))
         except Refused as refusal:
@@ -430,7 +439,7 @@ class Model:
             return Answer(self.refusal, None, frozenset(), 0)
         walk, need = Walk(self.tables, ways), None
         try:
-            walk.run(self.root)
+            walk.run(self.root, self.values)
             told, need = "listing=" + walk.listing().encode().hex(), len(walk.listing(True).encode())
         except Refused as refusal:
             told = str(refusal)

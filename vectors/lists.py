@@ -37,15 +37,19 @@ def told(printed):
     return "listing=" + printed[:printed.rindex(b"need=")].hex()
 
 
+def is_asked(case, printed):
+    """Whether the crate is asked for a listing: not for replies to get-value, whose letter is small, nor where a number of OURS is printed."""
+    return case[0].isupper() and told(printed) not in [f"refused={number}" for number in OURS]
+
+
 def read_listings():
     """The cases that the crate is asked for, and its answers."""
     cases, answers = files("listings")
     differ = dict(row.split(" ", 1) for row in rows(DIFFER))
     found = []
     for place, (case, printed) in enumerate(zip(rows(cases), answers.read_bytes().split(b"\n\n")), 1):
-        answer = told(printed)
-        if answer not in [f"refused={number}" for number in OURS] and case[0] not in "VW":
-            found.append((asked(case), differ.get(str(place), answer)))
+        if is_asked(case, printed):
+            found.append((asked(case), differ.get(str(place), told(printed))))
     return [case for case, _ in found], [answer for _, answer in found]
 
 

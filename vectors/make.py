@@ -13,14 +13,16 @@ HERE = Path(__file__).resolve().parent
 sys.path.append(str(HERE.parent / "oracle"))
 import walk  # noqa: E402  (the path above has to come first)
 from asking import answers, with_room  # noqa: E402
-from cases import ends, known, leaves, levels, limits, lines, listed, listings, models, readings, refusals, repeats, rooms, strings, tables, trees, values  # noqa: E402
-from lists import DIFFER, OURS, asked, files, told  # noqa: E402
+from cases import ends, known, leaves, levels, limits, lines, listed, listings, readings, refusals, repeats, rooms, strings, tables, trees, values  # noqa: E402
+from lists import DIFFER, asked, files, is_asked, told  # noqa: E402
 
 SEED = 20261115
 # What `modellist` reads of a reply: one byte more than it may have.
 MOST_READ = 65_537
-# How many random replies to get-value are drawn, and how many are kept for each answer.
-VALUES_DRAWN, VALUES_KEPT = 4_000, 20
+# How many random replies to get-value are drawn, and how many are kept of listings and of each refusal; and the longest damaged real one.
+VALUES_DRAWN, LISTINGS_KEPT, REFUSALS_KEPT, DAMAGED_LONGEST = 4_000, 12, 4, 1_000
+# The folder of the real replies that only the list of listings takes, for it was there after the others were made.
+LATER = HERE / "replies" / "values"
 # Those that are too large for the rooms of `modellist`.
 LARGER = ("fun-rec-200",)
 
@@ -63,6 +65,11 @@ def real(ending):
     return sorted(HERE.glob(f"replies/**/*.{ending}.txt"))
 
 
+def older(paths):
+    """What is in files that are not LATER, each once."""
+    return list(dict.fromkeys(path.read_bytes() for path in paths if LATER not in path.parents))
+
+
 def kind(answer):
     """All listings are one kind of answer, each refusal is one of its own."""
     return "listing" if answer.startswith("listing=") else answer
@@ -82,25 +89,29 @@ def in_rooms(letter, pairs):
     return [listed.case(letter, listings.tables(short).encode(), model.encode()) for short, model in pairs]
 
 
-def value_cases(rng):
-    """Random replies to get-value, a few for each answer."""
-    kept = {}
-    for _ in range(VALUES_DRAWN):
-        drawn, told = values.random_case(rng)
-        case = listed.case("V", drawn.text(), models.written(told))
-        some = kept.setdefault(kind_printed(listed.printed(case)), [])
-        if len(some) < VALUES_KEPT:
-            some.append(case)
-    return [case for answer in sorted(kept) for case in kept[answer]]
+def few(cases, longest=listings.LONGEST):
+    """A few cases for each answer."""
+    most = lambda answer: LISTINGS_KEPT if answer == "listing" else REFUSALS_KEPT
+    return listings.sampled([(case, kind(told(listed.printed(case)))) for case in cases], most, longest)
 
 
-def kind_printed(printed):
-    return printed.split(b"\n")[0] if printed.startswith(b"refused=") else b"listing"
-
-
-def real_values():
-    """The real replies to get-value, over the tables of their folder."""
-    return [listed.case("V", (path.parent / "tables.txt").read_bytes(), path.read_bytes()) for path in real("value")]
+def value_ranges(rng):
+    """Replies to get-value."""
+    replies = [((path.parent / "tables.txt").read_bytes(), path.read_bytes()) for path in real("value")]
+    drawn = [listed.case("m", *values.random_case(rng)) for _ in range(VALUES_DRAWN)]
+    damaged = [(tables, values.damaged(rng, reply)) for tables, reply in (rng.choice(replies) for _ in range(VALUES_DRAWN))]
+    return [
+        ("replies to get-value, document 02's R-1: edges of its rules", in_rooms("m", known.pairs(values.EDGES))),
+        ("replies to get-value nested to levels 1,023 and 1,024", in_rooms("l", values.nested())),
+        ("replies to get-value: refused tables, what the reader refuses, what is not lent",
+         [listed.case(*parts) for parts in values.before_the_walk()]),
+        ("replies to get-value: the rooms just full and short by one, and a reply that is too long",
+         [listed.case(*parts) for parts in values.rooms()]),
+        ("the real replies to get-value", [listed.case("m", *parts) for parts in replies]),
+        ("random tables and replies to get-value, a few for each answer, by the seed", few(drawn)),
+        ("damaged copies of real replies to get-value, a few for each answer, by the seed",
+         few([listed.case("m", *parts) for parts in damaged], DAMAGED_LONGEST)),
+    ]
 
 
 def listing_ranges(rng):
@@ -129,22 +140,18 @@ def listing_ranges(rng):
         ("document 01's rooms, just full and short by one", [listed.case(*parts) for parts in limits.rooms()]),
         ("the longest reply, with as much text as there is room for, and one that is longer by a byte",
          [listed.case(*parts) for parts in limits.lengths()]),
-        ("replies to get-value: the edges of document 02's R-1", in_rooms("V", values.pairs())),
-        ("random tables and replies to get-value, a few for each answer, by the seed", value_cases(random.Random(f"{SEED} values"))),
-        ("the real replies to get-value", real_values()),
     ]
 
 
-def put_listings(rng):
+def put_listings(ranges):
     """The list of listings: document 01's answers, and beside them the crate's where it differs; each difference has to be a listed one."""
-    cases, spans = gathered(listing_ranges(rng))
+    cases, spans = gathered(ranges)
     found = list(map(listed.printed, cases))
     put_in, put_out = files("listings")
     put_in.parent.mkdir(exist_ok=True)
     written(put_in, cases)
     put_out.write_bytes(b"".join(found))
-    ours = [f"refused={number}" for number in OURS]
-    places = [place for place, printed in enumerate(found) if told(printed) not in ours and cases[place][0] not in listed.VALUES]
+    places = [place for place, pair in enumerate(zip(cases, found)) if is_asked(*pair)]
     differ = []
     for place, got in zip(places, answers("listings", [asked(cases[place]) for place in places])):
         if got != told(found[place]):
@@ -166,18 +173,19 @@ def put_replies():
 
 def main():
     seed = int(sys.argv[1]) if len(sys.argv) > 1 else SEED
-    replies = list(dict.fromkeys(path.read_bytes() for path in real("model") + real("value")))
-    real_tables = list(dict.fromkeys(path.read_bytes() for path in sorted(HERE.glob("replies/**/tables.txt"))))
+    replies = older(real("model") + real("value"))
+    real_tables = older(sorted(HERE.glob("replies/**/tables.txt")))
     (HERE / "listings").mkdir(exist_ok=True)
     # One generator a list, so that a change to one list leaves the others as they are.
     rows = put("strings", "strings", in_hex(strings.ranges(random.Random(f"{seed} strings"), replies)), leaves.ranges())
     rows += put("trees", "trees", in_hex(trees.ranges(random.Random(f"{seed} trees"), replies)), rooms.ranges())
     rows += put("tables", "tables", [], tables.ranges(random.Random(f"{seed} tables"), real_tables))
     rows += put("lines", "lines", lines.ranges(random.Random(f"{seed} lines")), ends.ranges())
-    rows += put_listings(random.Random(f"{seed} listings"))
+    rows += put_listings(listing_ranges(random.Random(f"{seed} listings")) + value_ranges(random.Random(f"{seed} values")))
     put_replies()
     written(HERE / "RANGES.md", ["# Where each range of lines comes from", "", f"Made by make.py with the seed {seed}.", "",
                           "| list | lines | origin |", "|---|---|---|", *rows])
+    return 0
 
 
 if __name__ == "__main__":

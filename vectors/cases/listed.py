@@ -2,8 +2,7 @@
 
 A case is a letter, tables.txt and the reply in hexadecimal, `-` for an empty one, a space between two: `M` has the rooms of
 program `modellist`, `L` larger ones; of these `N` lacks the nodes, `T` the text, `S` the bracket stack, `O` the output; `A` is the
-walk over no tables, no words and no text. `V` and `W` are replies to get-value, in the rooms of `M` and `L`. The answer ends with an
-empty line.
+walk over no tables, no words and no text. A small letter is of a reply to get-value, in the same rooms. The answer ends with an empty line.
 """
 
 from typing import NamedTuple
@@ -25,7 +24,6 @@ class Rooms(NamedTuple):
 LARGER = Rooms(16_384, 65_536, 65_536, 8_192)
 ROOMS = {"M": Rooms(2_048, 65_536, 65_536, 4_096), "L": LARGER, "N": LARGER._replace(nodes=0), "T": LARGER._replace(text=0),
          "S": LARGER._replace(depth=0), "O": LARGER._replace(out=0)}
-VALUES = {"V": "M", "W": "L"}
 NO_WORDS = "A"
 
 
@@ -63,10 +61,10 @@ def printed(line):
     """What is printed for a case."""
     letter, tables, reply = parts(line)
     try:
-        if letter == NO_WORDS:
+        if letter.upper() == NO_WORDS:
             raise reading.Refused(27)
-        rooms = ROOMS[VALUES.get(letter, letter)]
-        found = walked(rooms, tables, reply, letter in VALUES)
+        rooms = ROOMS[letter.upper()]
+        found = walked(rooms, tables, reply, letter.islower())
         listing, need = (found.listing(kept).encode() for kept in (False, True))
         fitting(26, len(need), rooms.out)
     except reading.Refused as refusal:

@@ -114,14 +114,18 @@ def drawn(rng):
     return [" ".join(part.hex() for part in models.random_case(rng)) for _ in range(DRAWN)]
 
 
-def sampled(cases):
+def kept_of(pair):
+    return KEPT.get(pair, KEPT_ALIKE if pair[0] == pair[1] else KEPT_APART)
+
+
+def sampled(cases, most=kept_of, longest=LONGEST):
     """The first few cases of each pair of answers that are not too long; where there are hardly any such, the shortest."""
     groups = {}
     for case, pair in cases:
         groups.setdefault(pair, []).append(case)
     kept = set()
     for pair, some in groups.items():
-        short = [case for case in some if len(case) <= LONGEST]
+        short = [case for case in some if len(case) <= longest]
         few = short if len(short) >= FEWEST else sorted(some, key=len)[:FEWEST]
-        kept.update(few[:KEPT.get(pair, KEPT_ALIKE if pair[0] == pair[1] else KEPT_APART)])
+        kept.update(few[:most(pair)])
     return [case for case, _ in cases if case in kept]

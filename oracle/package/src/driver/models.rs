@@ -173,29 +173,29 @@ impl Lent {
     fn stays(&self, what: &str) -> Result<(), String> {
         let (words, names, nodes, text) = &self.read;
         for ((list, front), name) in self.tables.iter().zip(words).zip(LISTS) {
-            list.holds(front).map_err(|fault| format!("list_model, {what}, {name}: {fault}"))?;
+            list.holds(front).map_err(|fault| format!("the listing, {what}, {name}: {fault}"))?;
         }
-        self.names.holds(names).map_err(|fault| format!("list_model, {what}, names: {fault}"))?;
-        self.nodes.holds(nodes).map_err(|fault| format!("list_model, {what}, nodes: {fault}"))?;
-        self.text.holds(text).map_err(|fault| format!("list_model, {what}, text: {fault}"))
+        self.names.holds(names).map_err(|fault| format!("the listing, {what}, names: {fault}"))?;
+        self.nodes.holds(nodes).map_err(|fault| format!("the listing, {what}, nodes: {fault}"))?;
+        self.text.holds(text).map_err(|fault| format!("the listing, {what}, text: {fault}"))
     }
 
     fn wrote(&self, what: &str, out: &[u8], told: &[u64]) -> Result<(), String> {
-        self.out.holds(out).map_err(|fault| format!("list_model, {what}, out: {fault}"))?;
-        self.told.holds(told).map_err(|fault| format!("list_model, {what}, told: {fault}"))
+        self.out.holds(out).map_err(|fault| format!("the listing, {what}, out: {fault}"))?;
+        self.told.holds(told).map_err(|fault| format!("the listing, {what}, told: {fault}"))
     }
 
     /// Asks and looks at the answer.
     fn expect(&mut self, what: &str, out: usize, told: usize, wanted: u64) -> Result<(), String> {
         let code = self.ask(what, out, told)?;
-        same(&format!("list_model, {what}"), code, wanted)
+        same(&format!("the listing, {what}"), code, wanted)
     }
 }
 
 /// A model that is refused is refused alike in any room, with anything behind its arena.
 fn refusals(lent: &mut Lent, words: &Words, names: &[u8], tree: &Arena, code: u64) -> Result<(), String> {
     if code == 0 {
-        return Err("list_model: a listing of no bytes".into());
+        return Err("a listing of no bytes".into());
     }
     lent.expect("a refusal, no room to tell", MORE, 0, short(OUT_ROOM, 1))?;
     lent.expect("a refusal, room for one number", MORE, 1, code)?;
@@ -209,7 +209,7 @@ fn listed(lent: &mut Lent, words: &Words, names: &[u8], tree: &Arena, need: usiz
     lent.expect("no room to tell", need, 0, short(OUT_ROOM, 1))?;
     lent.expect("just enough", need, 1, 0)?;
     let size = lent.told.slice()[0] as usize;
-    let listing = lent.out.slice().get(..size).ok_or("list_model tells more than was lent")?.to_vec();
+    let listing = lent.out.slice().get(..size).ok_or("the listing tells more than was lent")?.to_vec();
     // From the listing's end to the need there are zeros.
     let mut front = listing.clone();
     front.resize(need, 0);

@@ -1,0 +1,13 @@
+(set-option :produce-models true)
+(declare-datatype Option (par (X) (
+  (none)
+  (some (val X)))))
+(declare-const |b| Bool)
+(declare-const |2b| Bool)
+(declare-const o (Option Bool))
+(declare-const q Bool)
+(assert |b|)
+(assert (not |2b|))
+(assert (= o (some b)))
+(check-sat)
+(get-value (o |b| q b |2b| o))

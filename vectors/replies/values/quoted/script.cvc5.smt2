@@ -1,0 +1,11 @@
+(set-logic ALL)
+(set-option :produce-models true)
+(declare-datatype Option (par (X) (
+  (none)
+  (some (val X)))))
+(declare-const b Bool)
+(declare-const |b c| Bool)
+(assert b)
+(assert |b c|)
+(check-sat)
+(get-value (b |b c|))

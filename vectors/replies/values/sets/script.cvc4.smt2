@@ -1,0 +1,21 @@
+(set-logic ALL)
+(set-option :produce-models true)
+(declare-datatype Option (par (X) (
+  (none)
+  (some (val X)))))
+; Guild
+(declare-datatype E0 (
+  (E0 (E0_eid String))))
+(declare-const none-in (Set String))
+(declare-const words (Set String))
+(declare-const bytes (Set (_ BitVec 4)))
+(declare-const guilds (Set E0))
+(declare-const maybe (Option (Set Bool)))
+(assert (= none-in (as emptyset (Set String))))
+(assert (= words (union (singleton "b") (union (singleton "a") (singleton "b")))))
+(assert (= bytes (union (singleton #xc) (union (singleton #x3) (singleton #x0)))))
+(assert (member (E0 "north") guilds))
+(assert (member (E0 "") guilds))
+(assert (= maybe (some (union (singleton true) (singleton false)))))
+(check-sat)
+(get-value (none-in words bytes guilds maybe))

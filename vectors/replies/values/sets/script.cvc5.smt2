@@ -1,0 +1,21 @@
+(set-logic ALL)
+(set-option :produce-models true)
+(declare-datatype Option (par (X) (
+  (none)
+  (some (val X)))))
+; Guild
+(declare-datatype E0 (
+  (E0 (E0_eid String))))
+(declare-const none-in (Set String))
+(declare-const words (Set String))
+(declare-const bytes (Set (_ BitVec 4)))
+(declare-const guilds (Set E0))
+(declare-const maybe (Option (Set Bool)))
+(assert (= none-in (as set.empty (Set String))))
+(assert (= words (set.union (set.singleton "b") (set.union (set.singleton "a") (set.singleton "b")))))
+(assert (= bytes (set.union (set.singleton #xc) (set.union (set.singleton #x3) (set.singleton #x0)))))
+(assert (set.member (E0 "north") guilds))
+(assert (set.member (E0 "") guilds))
+(assert (= maybe (some (set.union (set.singleton true) (set.singleton false)))))
+(check-sat)
+(get-value (none-in words bytes guilds maybe))

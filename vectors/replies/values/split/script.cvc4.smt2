@@ -1,0 +1,11 @@
+(set-logic ALL)
+(set-option :produce-models true)
+(declare-datatype Option (par (X) (
+  (none)
+  (some (val X)))))
+(declare-const b Bool)
+(declare-const two Real)
+(assert b)
+(assert (= two 2.0))
+(check-sat)
+(get-value (b two))

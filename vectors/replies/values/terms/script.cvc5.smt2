@@ -1,0 +1,13 @@
+(set-logic ALL)
+(set-option :produce-models true)
+(declare-datatype Option (par (X) (
+  (none)
+  (some (val X)))))
+(declare-const b Bool)
+(declare-const v (_ BitVec 8))
+(declare-fun f (Bool) Bool)
+(assert b)
+(assert (= v #x7f))
+(assert (f true))
+(check-sat)
+(get-value (b (f true) (not b) v))
