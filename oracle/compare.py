@@ -53,9 +53,9 @@ def stale(name, mode):
 
 def unlisted():
     """Whether the calls of docs/REFUSALS.md are not those that the gate makes."""
-    calls = refusals.cases()
-    if rows(files("listings")[0])[:len(calls)] != calls:
-        print("the first cases of listings are not the calls of docs/REFUSALS.md")
+    calls, made = refusals.cases(), rows(files("listings")[0])
+    if made[:len(calls)] != calls or not set(refusals.given_cases()) <= set(made):
+        print("the first cases of listings are not the calls of docs/REFUSALS.md, or those of get-value are not among them")
         return True
     return False
 

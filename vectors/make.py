@@ -101,6 +101,7 @@ def value_ranges(rng):
     drawn = [listed.case("m", *values.random_case(rng)) for _ in range(VALUES_DRAWN)]
     damaged = [(tables, values.damaged(rng, reply)) for tables, reply in (rng.choice(replies) for _ in range(VALUES_DRAWN))]
     return [
+        ("replies to get-value: the smallest call for each number but 21, as docs/REFUSALS.md has them", refusals.given_cases()),
         ("replies to get-value, document 02's R-1: edges of its rules", in_rooms("m", known.pairs(values.EDGES))),
         ("replies to get-value nested to levels 1,023 and 1,024", in_rooms("l", values.nested())),
         ("replies to get-value: refused tables, what the reader refuses, what is not lent",

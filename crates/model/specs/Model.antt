@@ -114,7 +114,7 @@ module _ (T : Tables) where
       onRow (T .functions) (functionRow T name) (λ i f. functionTable f x argSort sort body >>= λ table. ok (isFunction i table))
   readCommand misshapen = refused UnexpectedModel
 
-  -- R-1: a list of two whose first is a symbol, else 13; a name that is not in the variable table is skipped unread, and the value of one that is expects the table's sort
+  -- R-1: a pair, else 13; the value of a name in the variable table expects the sort that the table gives it
   abbrev pub readPair : Option Pair → Result (List Definition)
   readPair none = refused UnexpectedModel
   readPair (some p) = onRow (T .variables) (variableRow T (p .name)) (λ i v. valueAs (v .sort) (p .second) >>= λ x. ok (isVariable i x))

@@ -28,7 +28,7 @@ abbrev pub size : Definition → ℕ
 size (isVariable i v) = valueSize v
 size (isFunction i t) = tableSize t
 
--- what a command was read as, and where its value stands
+-- what a part was read as, and where its value stands
 abbrev pub noted : Lent → Result (List Definition) → ℕ → Noted
 noted l (ok []) value = Noted.Skipped
 noted l (ok (d ∷ ds)) value = Noted.Defines (slot l d) value (capped (size d))
