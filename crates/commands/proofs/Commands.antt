@@ -48,8 +48,8 @@ module _ (ws : List ℕ) (size offset first many sort body : ℕ) where
     by-one f k ts name (cons a (cons c us)) t b r s p q = let c = s .many-are in absurd (omega arith)
 
     module _ (p : PairFound) (h : PairAt ws first p) where
-      pub arguments-none-such : p ≡ PairFound.NoPair → ArgumentsAt ws size offset first many sort body Wrong
-      arguments-none-such e = by-one Wrong (λ ts name a t b r s u v. (ap (λ (x : Option Pair). argument name x t b) (subst (λ (x : PairFound). PairShows ws ts x (pair a)) e (h ts a s)), refl))
+      pub arguments-other : p ≡ PairFound.NoPair → ArgumentsAt ws size offset first many sort body Wrong
+      arguments-other e = by-one Wrong (λ ts name a t b r s u v. (ap (λ (x : Option Pair). argument name x t b) (subst (λ (x : PairFound). PairShows ws ts x (pair a)) e (h ts a s)), refl))
 
       pub arguments-pair : (argSize argOffset second : ℕ) → p ≡ PairFound.Pair argSize argOffset second →
           ArgumentsAt ws size offset first many sort body (CommandFound.Function size offset argSize argOffset second sort body)

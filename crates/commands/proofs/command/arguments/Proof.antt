@@ -1,5 +1,5 @@
 use mathlib.Core.Path.{refl}
-use Rattle.commands.proofs.Commands.{arguments-none, arguments-many, arguments-none-such, arguments-pair}
+use Rattle.commands.proofs.Commands.{arguments-none, arguments-many, arguments-other, arguments-pair}
 use borrow.Author.Needs.{needs}
 use Rattle.commands.proofs.command.arguments.Statement.{statement}
 use Rattle.commands.proofs.command.arguments.Tie as tie
@@ -14,7 +14,7 @@ returns-2 : tie.Need-returns-2
 returns-2 c = let a = c .before .before .before .args in (arguments-many (a .nodes .now) (a .size) (a .offset) (a .first) (a .count) (a .sort) (a .body) (c .before .if1 .left) (c .if2 .taken), tt)
 
 returns-3 : tie.Need-returns-3
-returns-3 c = let a = c .before .before .before .before .before .before .args in (arguments-none-such (a .nodes .now) (a .size) (a .offset) (a .first) (a .count) (a .sort) (a .body) (c .before .before .before .if2 .left) _ (c .before .before .pair-at .ensures .0) (c .enum-told .given .1), tt)
+returns-3 c = let a = c .before .before .before .before .before .before .args in (arguments-other (a .nodes .now) (a .size) (a .offset) (a .first) (a .count) (a .sort) (a .body) (c .before .before .before .if2 .left) _ (c .before .before .pair-at .ensures .0) (c .enum-told .given .1), tt)
 
 returns-4 : tie.Need-returns-4
 returns-4 c = let a = c .before .before .before .before .before .before .before .args in (arguments-pair (a .nodes .now) (a .size) (a .offset) (a .first) (a .count) (a .sort) (a .body) (c .before .before .before .before .if2 .left) _ (c .before .before .before .pair-at .ensures .0) _ _ _ (c .before .pair .given .1), refl)
