@@ -177,12 +177,12 @@ uint64_t stazzumpi_list_model(const uint64_t *sorts, size_t sorts_length, const 
                               size_t names_length, const uint64_t *nodes, size_t nodes_length, const uint8_t *text,
                               size_t text_length, uint8_t *out, size_t out_length, uint64_t *told, size_t told_length);
 
-/* The listing of a reply to get-value, a list of pairs of a name and a value, as that of a model without functions. The value of a name
- * that is in the variable table has to be of the sort that the table gives it; a pair with any other name, a function's too, is skipped
- * and its value not read; a later pair replaces an earlier one, which is checked as well. Parameters, what is told and what is left in
- * `out` are those of stazzumpi_list_model, and it takes as much of the stack.
- * Refusals: 26 (told); 25; 27; 13 for a tree that is no list; that of the first pair that has one: 13 where it is no list of two or its
- * first no symbol, then those of a literal (4, 7, 8, 14 to 20, 22 to 24, 28), then 16 for another sort; 26 for `out`. */
+/* The listing of a reply to get-value, a list of pairs of a name and a value, as that of a model without functions. The value of a
+ * name that is in the variable table has to be of the sort that the table gives it; a pair with any other name, a function's too, is
+ * skipped and its value not read; a later pair replaces an earlier one, which is checked as well. Parameters, what is told and what
+ * is left in `out` are those of stazzumpi_list_model, and it takes as much of the stack.
+ * Refusals: 26 (told); 25; 27; 13 for a tree that is no list; that of the first pair that has one: 13 where it is no list of two or
+ * its first no symbol, then those of a literal (4, 7, 8, 14 to 20, 22 to 24, 28), then 16 for another sort; 26 for `out`. */
 uint64_t stazzumpi_list_values(const uint64_t *sorts, size_t sorts_length, const uint64_t *fields, size_t fields_length,
                                const uint64_t *variables, size_t variables_length, const uint64_t *functions,
                                size_t functions_length, const uint64_t *members, size_t members_length, const uint8_t *names,
@@ -345,11 +345,11 @@ static inline uint64_t stazzumpi_list_model_of(const struct stazzumpi_tables *t,
 
 /* stazzumpi_list_values, the same. */
 static inline uint64_t stazzumpi_list_values_of(const struct stazzumpi_tables *t, const uint64_t *nodes, size_t nodes_length,
-                                               const uint8_t *text, size_t text_length, uint8_t *out, size_t out_length,
-                                               uint64_t *length) {
+                                                const uint8_t *text, size_t text_length, uint8_t *out, size_t out_length,
+                                                uint64_t *length) {
     return stazzumpi_list_values(t->sorts, t->sorts_length, t->fields, t->fields_length, t->variables, t->variables_length,
-                                t->functions, t->functions_length, t->members, t->members_length, t->names, t->names_length, nodes,
-                                nodes_length, text, text_length, out, out_length, length, 1);
+                                 t->functions, t->functions_length, t->members, t->members_length, t->names, t->names_length, nodes,
+                                 nodes_length, text, text_length, out, out_length, length, 1);
 }
 
 /* stazzumpi_define_fun, stazzumpi_declare_fun, stazzumpi_declare_datatype. */

@@ -134,10 +134,7 @@ mod tests {
         assert_eq!(unsafe { ffi::stazzumpi_read_tables(s, 1, a, 1, b, 1, c, 1, d, 1, e, 1, told, 4) }, 26 + 256 * 5);
         let n = nodes.as_ptr();
         for list in [ffi::stazzumpi_list_model, ffi::stazzumpi_list_values] {
-            assert_eq!(
-                unsafe { list(n, 4, n, 4, n, 4, n, 4, n, 4, s, 1, n, 4, s, 1, o, 2, told, 0) },
-                26 + 256
-            );
+            assert_eq!(unsafe { list(n, 4, n, 4, n, 4, n, 4, n, 4, s, 1, n, 4, s, 1, o, 2, told, 0) }, 26 + 256);
         }
         assert_eq!((out, nodes, stack, table), ([9; 2], [9; 4], [9; 1], [[9; 1]; 5]));
     }

@@ -157,8 +157,12 @@ fn values_of_pairs() {
     lists("((b true))", 1, "var=b\nsort=0\nvalue=true\n", 0);
     lists("((b true) (b false))", 1, "var=b\nsort=0\nvalue=false\n", 0); // the later one
     lists("((z z) (f z) (|b| z))", 0, "", 0); // unread: no variable, a function, a name with bars
-    lists("((s (set.union (set.singleton true) (set.singleton true))) (b true))", 2,
-        "var=b\nsort=0\nvalue=true\nvar=s\nsort=2\nvalue={true}\n", 5); // in table order; `,true` is in the need
+    lists(
+        "((s (set.union (set.singleton true) (set.singleton true))) (b true))",
+        2,
+        "var=b\nsort=0\nvalue=true\nvar=s\nsort=2\nvalue={true}\n",
+        5,
+    ); // in table order; `,true` is in the need
     let samples: [(&str, Refusal); 13] = [
         ("b", Refusal::UnexpectedModel),
         ("(b true)", Refusal::UnexpectedModel),
@@ -197,7 +201,8 @@ fn as_document_01_has_it() {
         let (tables, reply) = (bytes(fields[1]), bytes(fields[2]));
         // a small letter is of a reply to get-value
         let values = fields[0].starts_with(|letter: char| letter.is_lowercase());
-        let (whole, call): (Whole, Call) = if values { (models::values, list_values) } else { (models::list, list_model) };
+        let (whole, call): (Whole, Call) =
+            if values { (models::values, list_values) } else { (models::list, list_model) };
         let got = whole(&tables, &reply, usize::MAX);
         if let Some(refused) = answer.strip_prefix("refused=") {
             let number: u8 = refused.lines().next().and_then(|number| number.parse().ok()).expect("a number");
