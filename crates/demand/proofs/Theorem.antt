@@ -29,7 +29,7 @@ use Rattle.demand.specs.Meaning.{valueOf, meaning}
 use Rattle.demand.specs.Lookup.{lookup}
 use Rattle.demand.specs.Last.{Body, lastTermIn, lastBodyIn, lastBody}
 use Rattle.demand.specs.Premise.{apart, sameKey, noTwo}
-use Rattle.demand.specs.Demand.{Sorted, OfVariable, OfFunction, First, Demand, Valued}
+use Rattle.demand.specs.Demand.{Sorted, OfVariable, OfFunction, First, Demand, Valued, Demanded}
 use Rattle.demand.proofs.Looks.{lastHit, firstHit, lookup-arranged, last-first, last-first-one}
 use Rattle.demand.proofs.Literals.{literal-means}
 use Rattle.demand.proofs.Bodies.{body-first, tests-give}
@@ -117,8 +117,6 @@ module _ (T : Tables) (rules : lawful T ≡ true) where
   values-demand t ds o e = record { variables = first-demand Form.Values t ds o e; functions = λ i. no-functions i t ds e }
 
   -- of a tree that stands in an arena
-  pub third-demand-sound : (t : Tree) (ds : List Definition) → Sound t → readModel T t ≡ ok ds → Demand T t (map settled ds)
-  third-demand-sound t ds s e = third-demand t ds (sound-octets t s) e
-
-  pub values-demand-sound : (t : Tree) (ds : List Definition) → Sound t → readValues T t ≡ ok ds → Valued T t (map settled ds)
-  values-demand-sound t ds s e = values-demand t ds (sound-octets t s) e
+  pub demanded : (form : Form) (t : Tree) (ds : List Definition) → Sound t → readReply T form t ≡ ok ds → Demanded form T t (map settled ds)
+  demanded Form.Model t ds s e = third-demand t ds (sound-octets t s) e
+  demanded Form.Values t ds s e = values-demand t ds (sound-octets t s) e

@@ -56,3 +56,8 @@ pub record Demand (T : Tables) (t : Tree) (ds : List Definition) : Type 0 where
 pub record Valued (T : Tables) (t : Tree) (ds : List Definition) : Type 0 where
   pub variables : First T Form.Values t ds
   pub functions : (i : ℕ) → lastFunction i ds ≡ none
+
+-- of a reply, by its form
+abbrev pub Demanded : Form → Tables → Tree → List Definition → Type 0
+Demanded Form.Model T t ds = Demand T t ds
+Demanded Form.Values T t ds = Valued T t ds

@@ -12,30 +12,20 @@ use Rattle.refusals.specs.declared.Refusal.{Refusal}
 use Rattle.lent.specs.declared.Written.the-variants.{Length, Refused}
 use Rattle.lent.specs.Left.{Left, Leaves}
 use Rattle.arena.specs.Arena.{Arena}
-use Rattle.arena.specs.Tree.{Tree, Sound}
+use Rattle.arena.specs.Tree.{Tree}
 use Rattle.tables.specs.Layout.{Lent, tablesOf}
 use Rattle.tables.specs.Rules.{lawful}
-use Rattle.tables.specs.Sort.{Tables}
 use Rattle.sorts.specs.Result.{Result, ok, refused}
 use Rattle.well_sorted.proofs.Sound.{sound-octets}
 use Rattle.commands.specs.declared.form.Form.{Form}
 use Rattle.model.specs.Model.{Definition, readReply}
 use Rattle.model.specs.Listing.{settled, listing, need}
 use Rattle.demand.specs.Alike.{Alike}
-use Rattle.demand.specs.Demand.{Demand, Valued}
+use Rattle.demand.specs.Demand.{Demanded}
 use Rattle.demand.proofs.Tells.{bytes-tell}
-use Rattle.demand.proofs.Theorem.{third-demand-sound, values-demand-sound}
+use Rattle.demand.proofs.Theorem.{demanded}
 use Rattle.listing.specs.Lists.{fitted, left, Lists, bad-table, bad-arena, walked}
 use Rattle.listing.proofs.Wholes.{fits, short, passes-rules}
-
--- what demand 3 says, by the reply's form
-abbrev pub Demanded : Form → Tables → Tree → List Definition → Type 0
-Demanded Form.Model T t ds = Demand T t ds
-Demanded Form.Values T t ds = Valued T t ds
-
-pub demanded : (form : Form) (T : Tables) → lawful T ≡ true → (t : Tree) (ds : List Definition) → Sound t → readReply T form t ≡ ok ds → Demanded form T t (map settled ds)
-demanded Form.Model T rules t ds s e = third-demand-sound T rules t ds s e
-demanded Form.Values T rules t ds s e = values-demand-sound T rules t ds s e
 
 -- the reply that the words and the text hold, what it defines, and its listing at the front
 pub record Listed (form : Form) (l : Lent) (ws ts : List ℕ) (n : ℕ) (exit : List ℕ) : Type 0 where
@@ -78,7 +68,7 @@ listed-demand form l ws ts entry n exit (walked p t a h) = go (readReply (tables
           reads = e;
           front = g .1;
           long = g .0;
-          demand = demanded form (tablesOf l) (passes-rules l p) t ds (a .sound) e;
+          demand = demanded (tablesOf l) (passes-rules l p) form t ds (a .sound) e;
         }
     go (refused z) e k = no-length (k .answers)
 

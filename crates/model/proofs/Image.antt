@@ -9,15 +9,18 @@ use lib.Dec.{eqb}
 use borrow.Author.Tests.{eq-eqb}
 use Rattle.ground.specs.Lists.{at}
 use Rattle.refusals.specs.declared.Refusal.the-variants.{UnexpectedModel, UnmatchedType}
-use Rattle.arena.specs.Tree.{Tree, Trees, app}
+use Rattle.arena.specs.Text.{sameText}
+use Rattle.arena.specs.Tree.{Tree, Trees, symbol, app, nil, cons}
 use Rattle.tables.specs.Find.{variableRow}
 use Rattle.tables.specs.Sort.{Variable, Tables}
+use Rattle.tables.proofs.Places.{none-some, some-one}
 use Rattle.sorts.specs.Result.{Result, ok, refused, _>>=_, unless, found}
 use Rattle.sorts.specs.Sort.{readSort, levels}
 use Rattle.values.specs.Value.{Value}
 use Rattle.commands.specs.declared.form.Form.{Form}
-use Rattle.commands.specs.Command.{variable}
+use Rattle.commands.specs.Command.{variable, command}
 use Rattle.commands.specs.Pair.{pairOf}
+use Rattle.commands.proofs.Shapes.{define}
 use Rattle.model.specs.Model.{Definition, isVariable, valueAs, variableValue, onRow, readCommand, readPair, readPart, readParts, readReply, readModel, readValues}
 use Rattle.model.specs.Image.{Declares, Image, no-more, one-more}
 
@@ -62,3 +65,19 @@ module _ (T : Tables) where
   pub image-read : (us vs : Trees) → Image T us vs → readValues T (app us) ≡ readModel T (app vs)
   unfolding readReply
   image-read us vs h = image-parts us vs h
+
+  -- a sort that is read as the name's row, or any where it has none
+  pub declares-row : (name : List ℕ) (sort : Tree) (i : ℕ) (x : Variable) → variableRow T name ≡ some i → at (T .variables) i ≡ some x → readSort T levels sort ≡ ok (x .sort) → Declares T name sort
+  declares-row name sort i x p q r j y s t =
+      let e : i ≡ j = some-one (sym p ∙ s) in
+      let f : x ≡ y = some-one (sym q ∙ ap (λ (k : ℕ). at (T .variables) k) e ∙ t) in
+      r ∙ ap (λ (v : Variable). ok (v .sort)) f
+
+  pub declares-none : (name : List ℕ) (sort : Tree) → variableRow T name ≡ none → Declares T name sort
+  declares-none name sort p j y s t = absurd (none-some (sym p ∙ s))
+
+  -- (NAME VALUE) and (define-fun NAME () SORT VALUE)
+  pub image-written : (us vs : Trees) (name : List ℕ) (sort value : Tree) → Declares T name sort → Image T us vs →
+      Image T (cons (app (cons (symbol name) (cons value nil))) us) (cons (define name nil sort value) vs)
+  unfolding command sameText
+  image-written us vs name sort value d h = one-more name sort value refl refl d h

@@ -126,7 +126,14 @@ fn show_told(need: usize, full: Written, short: Written, line: &mut [u8]) {
 }
 
 // The listing in just as much as it needs, and in one byte less.
-fn show_rooms(letter: u8, tables: &[u8], reply: &[u8], out: &mut [u8], need: usize, line: &mut [u8]) {
+fn show_rooms(
+    letter: u8,
+    tables: &[u8],
+    reply: &[u8],
+    out: &mut [u8],
+    need: usize,
+    line: &mut [u8],
+) {
     if out.len() < need {
         return;
     }

@@ -26,9 +26,11 @@ use Rattle.commands.specs.declared.form.Form.{Form}
 use Rattle.model.specs.Model.{Definition, readReply}
 use Rattle.model.specs.Listing.{settled, listing, need}
 use Rattle.demand.specs.Alike.{Alike}
+use Rattle.demand.specs.Demand.{Demanded}
 use Rattle.demand.proofs.Tells.{bytes-tell}
+use Rattle.demand.proofs.Theorem.{demanded}
 use Rattle.listing.specs.Lists as listed
-use Rattle.listing.proofs.Demand.{Demanded, demanded, no-length, fronted}
+use Rattle.listing.proofs.Demand.{no-length, fronted}
 use Rattle.reply.specs.Reply.{byteLimit, unread, walked, Replies, too-long, bad-table, spelled, programRooms}
 use Rattle.reply.specs.Printed.{refusalLines, Shows, shown, Prints}
 use Rattle.reply.proofs.One.{one-spelled}
@@ -66,7 +68,7 @@ module _ (form : Form) (tables reply entry : List ℕ) (bytes : Bytes reply) whe
           definitions = ds;
           reads = e;
           prints = fronted (listing T ds) (need T ds) entry n left d .1;
-          demand = demanded form T (s .lawful) t ds sound e;
+          demand = demanded T (s .lawful) form t ds sound e;
         }
     tree-listed T s short t i (refused why) e d = no-length (d .answers)
 
