@@ -13,7 +13,7 @@ use Rattle.tables.specs.Sort.{Tables}
 use Rattle.shapes.specs.Shows.{Standing, Reads}
 use Rattle.sorts.specs.Result.{ok}
 use Rattle.sorts.specs.Sort.{levels}
-use Rattle.literals.specs.Literal.{Lit, read}
+use Rattle.means.specs.Literal.{Lit, read}
 use Rattle.well_sorted.proofs.Results.{ok-same, went, passed, was-found}
 use Rattle.value_text.specs.Value.{Given}
 use Rattle.commands.specs.declared.chain.LinkFound.{LinkFound}

@@ -16,7 +16,7 @@ use Rattle.shapes.proofs.Stood.{first-of, others-of}
 use Rattle.sorts.specs.Result.{ok}
 use Rattle.sorts.specs.Sort.{levels}
 use Rattle.values.specs.Value.{vBool}
-use Rattle.literals.specs.Literal.{Lit, read}
+use Rattle.means.specs.Literal.{Lit, read}
 use Rattle.well_sorted.proofs.Results.{ok-same, went, passed, was-found}
 use Rattle.value_text.specs.Value.{Given}
 use Rattle.commands.specs.Command.{key}

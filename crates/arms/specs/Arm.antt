@@ -13,7 +13,7 @@ use Rattle.sorts.specs.Sort.{levels}
 use Rattle.values.specs.Value.{Value, vBool}
 use Rattle.values.specs.Normal.{normal}
 use Rattle.values.specs.HasSort.{HasSort, Loose}
-use Rattle.literals.specs.Literal.{Lit, read}
+use Rattle.means.specs.Literal.{Lit, read}
 use Rattle.value_text.specs.Laid.{Lays}
 use Rattle.value_text.specs.Value.{Given}
 use Rattle.commands.specs.Command.{key}

@@ -10,7 +10,7 @@ use Rattle.shapes.specs.Shows.{Standing, StandingAll, Reads}
 use Rattle.sorts.specs.Result.{ok}
 use Rattle.sorts.specs.Sort.{levels}
 use Rattle.values.specs.Value.{Value}
-use Rattle.literals.specs.Literal.{Lit, read}
+use Rattle.means.specs.Literal.{Lit, read}
 use Rattle.commands.specs.Command.{chain}
 use Rattle.model.specs.Model.{Arm, Table, readChain, readTests}
 use Rattle.model.specs.Listing.{normalArm}

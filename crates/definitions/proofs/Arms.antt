@@ -17,7 +17,7 @@ use Rattle.values.specs.Text.{text}
 use Rattle.values.specs.Value.{vBool}
 use Rattle.literals.specs.declared.answer.Literal.{Literal}
 use Rattle.literals.specs.declared.form.Expected.{Expected}
-use Rattle.literals.specs.Literal.{Lit, read}
+use Rattle.means.specs.Literal.{Lit, read}
 use Rattle.literals.specs.Plan.{DecodesAt}
 use Rattle.commands.specs.declared.test.KeyFound.{KeyFound}
 use Rattle.commands.specs.Command.{key}

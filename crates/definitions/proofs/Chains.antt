@@ -19,7 +19,7 @@ use Rattle.sorts.specs.Sort.{levels}
 use Rattle.values.specs.Text.{text}
 use Rattle.literals.specs.declared.answer.Literal.{Literal}
 use Rattle.literals.specs.declared.form.Expected.{Expected}
-use Rattle.literals.specs.Literal.{Lit, read}
+use Rattle.means.specs.Literal.{Lit, read}
 use Rattle.literals.specs.Answer.{capped}
 use Rattle.literals.specs.Plan.{Given, DecodesAt}
 use Rattle.commands.specs.declared.chain.LinkFound.{LinkFound}

@@ -14,7 +14,7 @@ use Rattle.sorts.specs.Result.{Result, ok, _>>=_, unless}
 use Rattle.values.specs.Text.{text}
 use Rattle.values.specs.Value.{Value}
 use Rattle.literals.specs.declared.answer.Literal.{Literal}
-use Rattle.literals.specs.Literal.{Lit}
+use Rattle.means.specs.Literal.{Lit}
 use Rattle.literals.specs.Answer.{capped, answer}
 use Rattle.literals.proofs.Answers.{value-told, refused-told}
 use Rattle.model.specs.Model.{Arm, armOf}

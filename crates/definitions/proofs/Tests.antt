@@ -20,7 +20,7 @@ use Rattle.sorts.specs.Result.{Result, ok, refused, _>>=_, unless, found}
 use Rattle.sorts.specs.Sort.{levels}
 use Rattle.values.specs.Text.{text}
 use Rattle.values.specs.Value.{vBool}
-use Rattle.literals.specs.Literal.{Lit, read}
+use Rattle.means.specs.Literal.{Lit, read}
 use Rattle.literals.specs.Answer.{capped}
 use Rattle.literals.specs.Plan.{Given}
 use Rattle.commands.specs.Command.{key}

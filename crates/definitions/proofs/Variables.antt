@@ -19,7 +19,7 @@ use Rattle.sorts.proofs.Read.{read-row, read-refused}
 use Rattle.values.specs.Value.{Value}
 use Rattle.literals.specs.declared.answer.Literal.{Literal}
 use Rattle.literals.specs.declared.form.Expected.{Expected}
-use Rattle.literals.specs.Literal.{read}
+use Rattle.means.specs.Literal.{read}
 use Rattle.literals.specs.Plan.{DecodesAt}
 use Rattle.model.specs.Model.{valueAs}
 use Rattle.definitions.specs.declared.measure.Measured.{Measured}

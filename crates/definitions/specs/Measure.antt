@@ -16,7 +16,7 @@ use Rattle.sorts.specs.Result.{Result, ok, refused, _>>=_, unless, found}
 use Rattle.values.specs.Text.{text}
 use Rattle.values.specs.Value.{Value, vBool}
 use Rattle.literals.specs.declared.answer.Literal.{Literal}
-use Rattle.literals.specs.Literal.{Lit, read}
+use Rattle.means.specs.Literal.{Lit, read}
 use Rattle.literals.specs.Answer.{capped, answer}
 use Rattle.literals.specs.Plan.{Given}
 use Rattle.commands.specs.Command.{chain, key}

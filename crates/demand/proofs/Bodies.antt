@@ -16,15 +16,16 @@ use Rattle.sorts.specs.Result.{ok}
 use Rattle.sorts.specs.Sort.{levels}
 use Rattle.values.specs.Normal.{normal}
 use Rattle.values.specs.Value.{Value, vBool}
-use Rattle.literals.specs.Literal.{Lit, read}
+use Rattle.means.specs.Literal.{Lit, read}
 use Rattle.well_sorted.proofs.Results.{ok-same, went, passed, was-found}
 use Rattle.commands.specs.Command.{Chain, default, arm, chain, tests, key}
 use Rattle.commands.proofs.Shapes.{TestView, t-left, t-right, key-view, tests-view, ite, chain-by}
 use Rattle.model.specs.Model.{Table, armOf, tableOf, push, readChain, readTests, bodyBy, readBody}
-use Rattle.demand.specs.Equal.{decided, equal}
+use Rattle.values.specs.Equal.{decided, equal}
+use Rattle.values.specs.Operators.{either, equals}
 use Rattle.demand.specs.Mention.{unbarred}
-use Rattle.demand.specs.Meaning.{Meant, chosen, equals, either, anyOf, meaning, meanings}
-use Rattle.demand.proofs.Decisions.{turned}
+use Rattle.demand.specs.Meaning.{Meant, both, choice, anyOf, meaning, meanings}
+use Rattle.values.proofs.Decisions.{turned}
 use Rattle.demand.proofs.Looks.{firstHit, Give}
 
 -- L: a literal that is read means its value
@@ -36,7 +37,7 @@ module _ (T : Tables) (x : List ℕ) (v : Value) (L : (t : Tree) (e : Option ℕ
   unfolding meaning
   argument-means = rw (same-refl (unbarred x)) refl
 
-  equal-at : (a b : Tree) → meaning (app (cons (symbol (bytes "=")) (cons a (cons b nil)))) T x v none ≡ equals (meaning a T x v none) (meaning b T x v none)
+  equal-at : (a b : Tree) → meaning (app (cons (symbol (bytes "=")) (cons a (cons b nil)))) T x v none ≡ both (λ y z. some (equals y z)) (meaning a T x v none) (meaning b T x v none)
   unfolding meaning sameText
   equal-at a b = refl
 
@@ -52,7 +53,7 @@ module _ (T : Tables) (x : List ℕ) (v : Value) (L : (t : Tree) (e : Option ℕ
 
   any-more : (m : Meant) (ms : List Meant) (h k : Bool) → m none ≡ some (vBool h) → anyOf ms ≡ some (vBool k) → anyOf (m ∷ ms) ≡ some (vBool (h || k))
   any-more m [] h k p q = let z : false ≡ k = cc in p ∙ ap (λ (b : Bool). some (vBool b)) (or-false h ∙ ap (λ (b : Bool). h || b) z)
-  any-more m (n ∷ ms) h k p q = ap (λ (o : Option Value). either o (anyOf (n ∷ ms))) p ∙ ap (λ (o : Option Value). either (some (vBool h)) o) q
+  any-more m (n ∷ ms) h k p q = ap (λ (o : Option Value). both either o (anyOf (n ∷ ms))) p ∙ ap (λ (o : Option Value). both either (some (vBool h)) o) q
 
   pub record AnyHit (us : Trees) (t : Table) : Type 0 where
     pub hit : Bool
@@ -105,11 +106,11 @@ module _ (T : Tables) (x : List ℕ) (v : Value) (L : (t : Tree) (e : Option ℕ
         let p = passed _ UnmatchedType _ table (w .next) in
         subst (Found t) (ok-same (p .1)) (L t (some result) (w .got) (w .first))
 
-    ite-at : (test value rest : Tree) → meaning (ite test value rest) T x v (some result) ≡ chosen (meaning test T x v none) (meaning value T x v (some result)) (meaning rest T x v (some result))
+    ite-at : (test value rest : Tree) → meaning (ite test value rest) T x v (some result) ≡ choice (meaning test T x v none) (meaning value T x v (some result)) (meaning rest T x v (some result))
     unfolding meaning sameText
     ite-at test value rest = refl
 
-    chosen-hit : (h : Bool) (y z : Value) → chosen (some (vBool h)) (some y) (some z) ≡ some (cond h y z)
+    chosen-hit : (h : Bool) (y z : Value) → choice (some (vBool h)) (some y) (some z) ≡ some (cond h y z)
     chosen-hit h y z = refl
 
     arm-meets : (test value rest : Tree) → Meets rest (chain rest) → Meets (ite test value rest) (arm test value (chain rest))

@@ -23,7 +23,7 @@ use Rattle.shapes.specs.SortShape.{SortShape, sortShape}
 use Rattle.sorts.specs.Result.{ok}
 use Rattle.sorts.specs.Sort.{sortWord, sortOf, readSort}
 use Rattle.values.specs.Value.{Value, Values}
-use Rattle.literals.specs.Literal.{Lit, read}
+use Rattle.means.specs.Literal.{Lit, read}
 use Rattle.well_sorted.proofs.Results.{refuses, went, was-found}
 use Rattle.well_sorted.proofs.Finds.{IsNamed, named-is}
 use Rattle.well_sorted.proofs.Views.{extName, SortView, s-word, s-width, s-option, s-set, s-none, sort-view}

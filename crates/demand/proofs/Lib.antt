@@ -1,5 +1,4 @@
 pub mod Free
-pub mod Decisions
 pub mod Looks
 pub mod Literals
 pub mod Bodies

@@ -21,7 +21,7 @@ use Rattle.sorts.specs.Result.{ok}
 use Rattle.sorts.specs.Sort.{levels}
 use Rattle.values.specs.Normal.{normal}
 use Rattle.values.specs.Value.{Value}
-use Rattle.literals.specs.Literal.{Lit, read}
+use Rattle.means.specs.Literal.{Lit, read}
 use Rattle.well_sorted.proofs.Views.{extName}
 use Rattle.well_sorted.proofs.Readings.{Reading, r-bits, r-string, r-true, r-false, r-member, r-none, r-asSome, r-some, r-empty, r-singleton, r-union, r-extension, r-indexed, r-entity, r-record, reading}
 use Rattle.demand.specs.Mention.{sameName, mentions}

@@ -19,10 +19,10 @@ use Rattle.values.specs.Text.{text}
 use Rattle.values.specs.Value.{Value}
 use Rattle.model.specs.Model.{Arm, Table, tableOf}
 use Rattle.model.specs.Listing.{normalArm}
-use Rattle.demand.specs.Equal.{decided, equal}
+use Rattle.values.specs.Equal.{decided, equal}
 use Rattle.demand.specs.Lookup.{firstOf, lookup, Gives, by-arm, by-default}
 use Rattle.demand.specs.Premise.{sameKey}
-use Rattle.demand.proofs.Decisions.{decided-yes, decided-no, decided-true, decided-false}
+use Rattle.values.proofs.Decisions.{decided-yes, decided-no, decided-true, decided-false}
 
 abbrev pub keyText : Arm → List ℕ
 keyText a = text (a .«when»)

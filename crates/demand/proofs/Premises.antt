@@ -27,13 +27,13 @@ use Rattle.sorts.specs.Sort.{readSort}
 use Rattle.values.specs.Normal.{normal}
 use Rattle.values.specs.Text.{text}
 use Rattle.values.specs.Value.{Value, vBool, vString, vEntity}
-use Rattle.literals.specs.Literal.{read}
+use Rattle.means.specs.Literal.{read}
 use Rattle.well_sorted.specs.Octets.{Octets}
 use Rattle.commands.specs.Command.{command, chain, tests, key}
 use Rattle.model.specs.Model.{armOf, Table, tableOf, isVariable, isFunction, readBody, readChain, readTests, readParts, readReply, readModel}
 use Rattle.model.specs.Listing.{settledTable}
 use Rattle.demand.specs.Examples.{of, word}
-use Rattle.demand.specs.Equal.{equal}
+use Rattle.values.specs.Equal.{equal}
 use Rattle.demand.specs.Mention.{unbarred, mentions}
 use Rattle.demand.specs.Meaning.{meaning}
 use Rattle.demand.specs.Lookup.{firstOf, lookup}

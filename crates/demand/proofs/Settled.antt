@@ -15,7 +15,7 @@ use Rattle.values.specs.Value.{Value}
 use Rattle.values.proofs.Normals.{normal-fits}
 use Rattle.model.specs.Model.{Arm, Table}
 use Rattle.model.specs.Listing.{normalArm, settledTable}
-use Rattle.demand.specs.Equal.{decided, equal}
+use Rattle.values.specs.Equal.{decided, equal}
 use Rattle.demand.specs.Lookup.{firstOf}
 use Rattle.demand.specs.Demand.{Sorted, One}
 use Rattle.demand.specs.Fits.{TableFits}

@@ -16,7 +16,7 @@ use Rattle.tables.specs.Sort.{Sort, bool, string, ext, bitVec, optionOf, setOf,
 use Rattle.sorts.specs.Result.{ok}
 use Rattle.sorts.specs.Sort.{levels}
 use Rattle.values.specs.HasSort.{HasSort, Loose}
-use Rattle.literals.specs.Literal.{Lit, read}
+use Rattle.means.specs.Literal.{Lit, read}
 use Rattle.well_sorted.specs.Octets.{Octets, OctetsAll}
 use Rattle.well_sorted.proofs.Results.{ok-same, went, passed, was-found}
 use Rattle.well_sorted.proofs.Fits.{read-fits}

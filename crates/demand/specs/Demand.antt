@@ -10,7 +10,7 @@ use Rattle.tables.specs.Sort.{Variable, Function, Tables}
 use Rattle.sorts.specs.Sort.{levels}
 use Rattle.values.specs.HasSort.{HasSort, Ascending}
 use Rattle.values.specs.Value.{Value}
-use Rattle.literals.specs.Literal.{read}
+use Rattle.means.specs.Literal.{read}
 use Rattle.commands.specs.declared.form.Form.{Form}
 use Rattle.model.specs.Model.{Table, Definition, lastVariable, lastFunction}
 use Rattle.demand.specs.Meaning.{valueOf, meaning}

@@ -17,8 +17,8 @@ use Rattle.shapes.specs.Shape.{shape}
 use Rattle.sorts.specs.Result.{_>>=_, unless}
 use Rattle.values.specs.Normal.{normal}
 use Rattle.values.specs.Value.{Value, vBool, vBits}
-use Rattle.literals.specs.Literal.{read}
-use Rattle.demand.specs.Equal.{equal}
+use Rattle.means.specs.Literal.{read}
+use Rattle.values.specs.Equal.{equal}
 use Rattle.demand.specs.Mention.{unbarred, mentions}
 use Rattle.demand.specs.Meaning.{meaning}
 

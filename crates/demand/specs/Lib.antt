@@ -1,4 +1,3 @@
-pub mod Equal
 pub mod Mention
 pub mod Meaning
 pub mod Examples

@@ -8,7 +8,7 @@ use Rattle.ground.specs.Lists.{at}
 use Rattle.order.specs.Every.{Every}
 use Rattle.values.specs.Value.{Value}
 use Rattle.model.specs.Model.{Arm, Table}
-use Rattle.demand.specs.Equal.{decided, equal}
+use Rattle.values.specs.Equal.{decided, equal}
 
 -- the value that a table gives an argument: the first arm's whose key it is, else the default
 unfoldable pub firstOf : List Arm → Value → Value → Value

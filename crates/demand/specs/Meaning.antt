@@ -1,5 +1,5 @@
 -- Document 01, "The model walk", bodies, for demand 3: what SMT-LIB's `ite`, `=` and `or` give a body at an argument's value, literals read as in document 01. No table of arms is mentioned.
-use mathlib.Core.Bool.{Bool, false, cond, _||_}
+use mathlib.Core.Bool.{false, cond}
 use mathlib.Core.List.{List, [], _∷_}
 use mathlib.Core.Option.{Option, none, some}
 use Prim.Native.Nat.{ℕ}
@@ -10,9 +10,9 @@ use Rattle.shapes.specs.Shape.{is, onSymbol}
 use Rattle.sorts.specs.Result.{Result, ok, refused}
 use Rattle.sorts.specs.Sort.{levels}
 use Rattle.values.specs.Normal.{normal}
-use Rattle.values.specs.Value.{Value, vBool, vString, vExt, vBits, vNone, vSome, vSet, vEntity, vRecord}
-use Rattle.literals.specs.Literal.{Lit, read}
-use Rattle.demand.specs.Equal.{decided, equal}
+use Rattle.values.specs.Value.{Value, vBool}
+use Rattle.means.specs.Literal.{Lit, read}
+use Rattle.values.specs.Operators.{either, equals, chosen}
 use Rattle.demand.specs.Mention.{sameName, mentions}
 
 -- what a term means, if anything, given the row of the sort that is expected of it, if one is
@@ -28,32 +28,18 @@ valueOf (refused r) = none
 abbrev pub literal : Tables → List ℕ → Tree → Meant
 literal T x t e = cond (mentions t x) none (valueOf (read T levels e t))
 
-abbrev pub truthOf : Value → Option Bool
-truthOf (vBool b) = some b
-truthOf (vString s) = none
-truthOf (vExt e z) = none
-truthOf (vBits w n) = none
-truthOf vNone = none
-truthOf (vSome v) = none
-truthOf (vSet vs) = none
-truthOf (vEntity row s) = none
-truthOf (vRecord row vs) = none
-
 -- SMT-LIB's `ite`, `=` and `or` of two: each means something only where each of its parts does
-abbrev pub chosen : Option Value → Option Value → Option Value → Option Value
-chosen c a b = over c (λ t. over (truthOf t) (λ h. over a (λ v. over b (λ w. some (cond h v w)))))
+abbrev pub both : (Value → Value → Option Value) → Option Value → Option Value → Option Value
+both rule a b = over a (λ v. over b (λ w. rule v w))
 
-abbrev pub equals : Option Value → Option Value → Option Value
-equals a b = over a (λ v. over b (λ w. some (vBool (decided (equal v w)))))
-
-abbrev pub either : Option Value → Option Value → Option Value
-either a b = over a (λ v. over b (λ w. over (truthOf v) (λ h. over (truthOf w) (λ k. some (vBool (h || k))))))
+abbrev pub choice : Option Value → Option Value → Option Value → Option Value
+choice c a b = over c (λ t. both (chosen t) a b)
 
 -- document 01's `(or)` and `(or t)`, of which SMT-LIB says nothing: false, and that test
 abbrev pub anyOf : List Meant → Option Value
 anyOf [] = some (vBool false)
 anyOf (m ∷ []) = m none
-anyOf (m ∷ n ∷ ms) = either (m none) (anyOf (n ∷ ms))
+anyOf (m ∷ n ∷ ms) = both either (m none) (anyOf (n ∷ ms))
 
 -- an application by its parts' meanings, its head's among them; branches are expected to be what the whole is
 abbrev pub iteOf : List Meant → Meant
@@ -61,14 +47,14 @@ iteOf [] e = none
 iteOf (h ∷ []) e = none
 iteOf (h ∷ c ∷ []) e = none
 iteOf (h ∷ c ∷ a ∷ []) e = none
-iteOf (h ∷ c ∷ a ∷ b ∷ []) e = chosen (c none) (a e) (b e)
+iteOf (h ∷ c ∷ a ∷ b ∷ []) e = choice (c none) (a e) (b e)
 iteOf (h ∷ c ∷ a ∷ b ∷ d ∷ ms) e = none
 
 abbrev pub equalOf : List Meant → Option Value
 equalOf [] = none
 equalOf (h ∷ []) = none
 equalOf (h ∷ a ∷ []) = none
-equalOf (h ∷ a ∷ b ∷ []) = equals (a none) (b none)
+equalOf (h ∷ a ∷ b ∷ []) = both (λ v w. some (equals v w)) (a none) (b none)
 equalOf (h ∷ a ∷ b ∷ c ∷ ms) = none
 
 abbrev pub orOf : List Meant → Option Value

@@ -11,7 +11,7 @@ use Rattle.sorts.specs.Result.{Result, ok, refused}
 use Rattle.values.specs.Normal.{normal}
 use Rattle.commands.specs.Command.{tests}
 use Rattle.model.specs.Model.{Arm, Table, readBody}
-use Rattle.demand.specs.Equal.{decided, equal}
+use Rattle.values.specs.Equal.{decided, equal}
 use Rattle.demand.specs.Mention.{sameName}
 use Rattle.demand.specs.Last.{Body}
 

@@ -28,7 +28,7 @@ use Rattle.tables.specs.Sort.{Variable, Function, Tables}
 use Rattle.shapes.specs.Shows.{StandingAll}
 use Rattle.sorts.specs.Result.{Result, ok, refused, _>>=_, found}
 use Rattle.sorts.specs.Sort.{readSort, levels}
-use Rattle.literals.specs.Literal.{read}
+use Rattle.means.specs.Literal.{read}
 use Rattle.well_sorted.proofs.Plain.{Plain, plain-then, plain-unless, plain-found, sort-plain, read-plain}
 use Rattle.well_sorted.proofs.Results.{refuses, ok-same}
 use Rattle.commands.specs.declared.form.Form.{Form}

@@ -23,7 +23,7 @@ use Rattle.shapes.specs.Shows.{Standing, StandingAll}
 use Rattle.sorts.specs.Result.{Result, ok, _>>=_}
 use Rattle.sorts.specs.Sort.{levels}
 use Rattle.values.specs.Value.{Value}
-use Rattle.literals.specs.Literal.{Lit, read}
+use Rattle.means.specs.Literal.{Lit, read}
 use Rattle.well_sorted.specs.Octets.{Octets, OctetsAll}
 use Rattle.well_sorted.proofs.Fits.{read-fits}
 use Rattle.well_sorted.proofs.Results.{refuses, ok-same, went, passed}

@@ -13,7 +13,7 @@ use Rattle.sorts.specs.Result.{ok}
 use Rattle.sorts.specs.Sort.{levels}
 use Rattle.values.specs.HasSort.{HasSort, Loose}
 use Rattle.values.specs.Value.{Value}
-use Rattle.literals.specs.Literal.{Lit, read}
+use Rattle.means.specs.Literal.{Lit, read}
 use Rattle.well_sorted.specs.Octets.{Octets}
 use Rattle.commands.specs.Command.{command}
 use Rattle.model.specs.Model.{Table, Definition, isVariable, isFunction, readCommand}

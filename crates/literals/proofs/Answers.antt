@@ -18,7 +18,8 @@ use Rattle.sorts.specs.Result.{Result, ok, refused, _>>=_, unless}
 use Rattle.sorts.specs.Sort.{rowOf}
 use Rattle.sorts.proofs.Read.{read-row, read-refused}
 use Rattle.literals.specs.declared.answer.Literal.{Literal}
-use Rattle.literals.specs.Literal.{Lit, lit, held}
+use Rattle.values.specs.Holds.{held}
+use Rattle.means.specs.Literal.{Lit, lit}
 use Rattle.literals.specs.Answer.{answer, need, some?, ValueOf}
 use Rattle.literals.specs.Parts.{Matches}
 

@@ -27,7 +27,7 @@ use Rattle.literals.specs.declared.form.Form.{Form}
 use Rattle.literals.specs.declared.form.Expected.{Expected}
 use Rattle.literals.specs.declared.form.Inside.{Inside}
 use Rattle.literals.specs.declared.form.Then.{Then}
-use Rattle.literals.specs.Literal.{Lit, lit, optionIn, setIn, litOf, expectIn, someLit}
+use Rattle.means.specs.Literal.{Lit, lit, optionIn, setIn, litOf, expectIn, someLit}
 use Rattle.literals.specs.Answer.{answer, need, capped, ValueOf}
 use Rattle.literals.specs.Parts.{insideOf, expectedOf, thenLit, bareLit, optionRow, setRow, bareAnswer, InsideRow, Expects, BareOf, Finishes, Matches}
 use Rattle.literals.proofs.Needs.{need-is, need-more, need-single}

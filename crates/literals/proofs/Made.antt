@@ -34,7 +34,7 @@ use Rattle.values.specs.Value.{vRecord}
 use Rattle.values.proofs.Lengths.{length-entity}
 use Rattle.literals.specs.declared.answer.Literal.{Literal}
 use Rattle.literals.specs.declared.plan.Plan.{Plan}
-use Rattle.literals.specs.Literal.{Lit, lit, read, fieldsOf, sameCount, madeRow}
+use Rattle.means.specs.Literal.{Lit, lit, read, fieldsOf, sameCount, madeRow}
 use Rattle.literals.specs.Answer.{capped, answer}
 use Rattle.literals.specs.Plan.{Means, EntityAt, RecordAs, PlansRow, PlansMade}
 

@@ -19,7 +19,7 @@ use Rattle.words.specs.Run.{parsed}
 use Rattle.tables.specs.Layout.{Lent, tablesOf}
 use Rattle.sorts.specs.Result.{_>>=_, unless}
 use Rattle.literals.specs.declared.answer.Literal.{Literal}
-use Rattle.literals.specs.Literal.{unsigned, numbered, widthLit}
+use Rattle.means.specs.Literal.{unsigned, numbered, widthLit}
 use Rattle.literals.specs.Answer.{answer}
 use Rattle.literals.specs.Parts.{BitsOf, WidthOf, IndexedOf}
 

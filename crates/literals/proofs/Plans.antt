@@ -36,7 +36,7 @@ use Rattle.literals.specs.declared.form.Form.{Form}
 use Rattle.literals.specs.declared.form.Inside.{Inside}
 use Rattle.literals.specs.declared.form.Then.{Then}
 use Rattle.literals.specs.declared.plan.Plan.{Plan}
-use Rattle.literals.specs.Literal.{Lit, read, optionIn, litOf, wordLit, appLit}
+use Rattle.means.specs.Literal.{Lit, read, optionIn, litOf, wordLit, appLit}
 use Rattle.literals.specs.Answer.{answer}
 use Rattle.literals.specs.Parts.{expectedOf, thenLit, InsideRow, Expects, BareOf, ExtensionOf, IndexedOf, BitsOf, StringOf, WordOf}
 use Rattle.literals.specs.Plan.{Means, thenOf, PlansInside, PlansAsSome, PlansMade, PlansApp, PlansAt}

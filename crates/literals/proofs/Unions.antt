@@ -11,7 +11,8 @@ use Rattle.refusals.specs.declared.Refusal.the-variants.{UnmatchedType, SetUnio
 use Rattle.sorts.specs.Result.{Result, ok, refused, _>>=_, unless}
 use Rattle.values.specs.Value.{Value, Values, vBool, vString, vExt, vBits, vNone, vSome, vSet, vEntity, vRecord, union as both}
 use Rattle.literals.specs.declared.answer.Literal.{Literal}
-use Rattle.literals.specs.Literal.{Lit, lit, held, unionLit}
+use Rattle.values.specs.Holds.{held}
+use Rattle.means.specs.Literal.{Lit, lit, unionLit}
 use Rattle.literals.specs.Answer.{answer, need, some?}
 use Rattle.literals.specs.Parts.{UnionNeed, UnionOf}
 use Rattle.literals.proofs.Answers.{value-told, refused-told}
@@ -24,17 +25,6 @@ none-held (some vs) e = absurd (true≢false e)
 all-held : (o : Option Values) → some? o ≡ true → (vs : Values) × (o ≡ some vs)
 all-held none e = absurd (true≢false (sym e))
 all-held (some vs) e = (vs, refl)
-
-pub held-set : (v : Value) (vs : Values) → held v ≡ some vs → v ≡ vSet vs
-held-set (vBool b) vs e = absurd (true≢false (sym (ap some? e)))
-held-set (vString s) vs e = absurd (true≢false (sym (ap some? e)))
-held-set (vExt x z) vs e = absurd (true≢false (sym (ap some? e)))
-held-set (vBits w n) vs e = absurd (true≢false (sym (ap some? e)))
-held-set vNone vs e = absurd (true≢false (sym (ap some? e)))
-held-set (vSome v) vs e = absurd (true≢false (sym (ap some? e)))
-held-set (vSet ws) vs e = let y : ws ≡ vs = cc in ap vSet y
-held-set (vEntity r s) vs e = absurd (true≢false (sym (ap some? e)))
-held-set (vRecord r ws) vs e = absurd (true≢false (sym (ap some? e)))
 
 -- two literals of one sort, by what they hold
 module _ (l n : Lit) where

@@ -27,7 +27,7 @@ use Rattle.values.proofs.Unions.{union-grouped, union-empty}
 use Rattle.literals.specs.declared.answer.Literal.{Literal}
 use Rattle.literals.specs.declared.decode.Field.{Field}
 use Rattle.literals.specs.declared.form.Expected.{Expected}
-use Rattle.literals.specs.Literal.{Lit, lit, read, fieldsOf}
+use Rattle.means.specs.Literal.{Lit, lit, read, fieldsOf}
 use Rattle.literals.specs.Answer.{capped, need, answer}
 use Rattle.literals.specs.Field.{fieldAnswer, recordNeed}
 use Rattle.literals.specs.Plan.{Given, DecodesAt, FieldsAt}

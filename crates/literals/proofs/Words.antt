@@ -4,10 +4,10 @@ use mathlib.Core.Path.{_≡_, refl, sym, ap, _∙_, subst}
 use mathlib.Core.Bool.{Bool, true, false}
 use mathlib.Core.List.{List}
 use mathlib.Core.Option.{Option, some}
-use Prim.Native.Nat.{ℕ, _+_, _*_, _-_, _^_, _≤_, _<_, suc}
+use Prim.Native.Nat.{ℕ, _+_, _*_, _-_, _^_, _≤_, _<_}
 use Prim.Native.String.{String}
 use native.Mathlib.Omega.{arith}
-use lib.IntN.{ℤ, pos, negsuc}
+use lib.IntN.{ℤ}
 use lib.ListN.{length}
 use mir.Syntax.{w64}
 use mir.Val.{SFits}
@@ -15,8 +15,7 @@ use mir.ValLaws.{toZ-ofZ}
 use Rattle.ground.specs.Bytes.{bytes}
 use Rattle.ground.specs.Lists.{at}
 use Rattle.refusals.specs.declared.Refusal.the-variants.{UnknownLiteral}
-use Rattle.decimals.specs.Decimal.{digitCount, signedDecimal}
-use Rattle.decimals.proofs.Counts.{count-most}
+use Rattle.decimals.specs.Decimal.{digitCount}
 use Rattle.decimals.proofs.Magnitudes.{back}
 use Rattle.words.specs.Extension.{signed}
 use Rattle.arena.specs.Text.{sameText}
@@ -35,9 +34,9 @@ use Rattle.shapes.specs.declared.shape.Kind.{Kind}
 use Rattle.shapes.specs.Shows.{extOf}
 use Rattle.values.specs.Text.{hexWidth}
 use Rattle.values.specs.Value.{Value, vBool, vString, vExt, vBits, vEntity}
-use Rattle.values.proofs.Lengths.{length-true, length-false, length-string, length-natural, length-negative, length-ext, length-bits, length-entity}
+use Rattle.values.proofs.Lengths.{length-true, length-false, length-string, signed-most, length-ext, length-bits, length-entity}
 use Rattle.literals.specs.declared.answer.Literal.{Literal}
-use Rattle.literals.specs.Literal.{litOf, memberLit, atRow}
+use Rattle.means.specs.Literal.{litOf, memberLit, atRow}
 use Rattle.literals.specs.Answer.{answer, need, capped, ValueOf}
 use Rattle.literals.specs.Parts.{wantedOf, BitsOf, StringOf, ExtensionOf, MemberOf, WordOf}
 use Rattle.literals.proofs.Needs.{need-is, need-twice}
@@ -48,10 +47,6 @@ ext-wanted : (kind : Kind) → sortWanted (wantedOf kind) ≡ ext (extOf kind)
 ext-wanted Kind.Decimal = refl
 ext-wanted Kind.Datetime = refl
 ext-wanted Kind.Duration = refl
-
-pub signed-most : (z : ℤ) → length (signedDecimal z) ≤ 41
-signed-most (pos n) = omega (arith, length-natural n, count-most n)
-signed-most (negsuc n) = omega (arith, length-negative n, count-most (suc n))
 
 module _ (sorts : List ℕ) (n : ℕ) (r : Literal) where
   pub bits-value : (width : ℕ) → n < 2 ^ 64 → n ≡ digitCount width + hexWidth width + 3 → ValueOf sorts (Wanted.BitVec width) n false r → BitsOf sorts width r

@@ -13,7 +13,8 @@ use Rattle.sorts.specs.Result.{Result, ok, refused}
 use Rattle.values.specs.Text.{text}
 use Rattle.values.specs.Value.{Value}
 use Rattle.literals.specs.declared.answer.Literal.{Literal}
-use Rattle.literals.specs.Literal.{Lit, held, litOf}
+use Rattle.values.specs.Holds.{held}
+use Rattle.means.specs.Literal.{Lit, litOf}
 
 -- as far as a word counts; no literal of an arena goes so far
 abbrev pub capped : ℕ → ℕ

@@ -1,6 +1,4 @@
-pub mod Literal
 pub mod Answer
 pub mod Parts
 pub mod Plan
 pub mod Field
-pub mod Samples

@@ -27,7 +27,7 @@ use Rattle.literals.specs.declared.form.Form.{Form}
 use Rattle.literals.specs.declared.form.Expected.{Expected}
 use Rattle.literals.specs.declared.form.Inside.{Inside}
 use Rattle.literals.specs.declared.form.Then.{Then}
-use Rattle.literals.specs.Literal.{Lit, optionIn, setIn, litOf, expectIn, noneLit, emptyLit, someLit, singletonLit, unionLit, indexedLit, widthLit, memberLit, wordLit}
+use Rattle.means.specs.Literal.{Lit, optionIn, setIn, litOf, expectIn, noneLit, emptyLit, someLit, singletonLit, unionLit, indexedLit, widthLit, memberLit, wordLit}
 use Rattle.literals.specs.Answer.{answer, need}
 
 abbrev pub insideOf : Form → Option Sort → Option ℕ

@@ -21,7 +21,7 @@ use Rattle.literals.specs.declared.form.Expected.{Expected}
 use Rattle.literals.specs.declared.form.Form.{Form}
 use Rattle.literals.specs.declared.form.Then.{Then}
 use Rattle.literals.specs.declared.plan.Plan.{Plan}
-use Rattle.literals.specs.Literal.{Lit, lit, read, fieldsOf, unionLit, optionIn, sameCount, entityLit, madeRow, madeLit, expectIn, appLit}
+use Rattle.means.specs.Literal.{Lit, lit, read, fieldsOf, unionLit, optionIn, sameCount, entityLit, madeRow, madeLit, expectIn, appLit}
 use Rattle.literals.specs.Answer.{answer}
 use Rattle.literals.specs.Parts.{expectedOf, insideOf, thenLit}
 

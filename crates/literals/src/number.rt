@@ -13,7 +13,7 @@ ghost use Rattle.words.specs.declared.digits.Radix.{Radix};
 ghost use Rattle.words.specs.Pair.{value};
 ghost use Rattle.words.specs.Run.{parsed};
 ghost use Rattle.arena.specs.Text.{textAt};
-ghost use Rattle.literals.specs.Literal.{unsigned};
+ghost use Rattle.means.specs.Literal.{unsigned};
 ghost use Rattle.literals.specs.Parts.{WidthOf, IndexedOf};
 
 // The sign that one number may begin with.

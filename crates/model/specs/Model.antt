@@ -13,7 +13,7 @@ use Rattle.shapes.specs.Shape.{onApp}
 use Rattle.sorts.specs.Result.{Result, ok, refused, _>>=_, unless, found}
 use Rattle.sorts.specs.Sort.{readSort, levels}
 use Rattle.values.specs.Value.{Value, vBool}
-use Rattle.literals.specs.Literal.{read}
+use Rattle.means.specs.Literal.{read}
 use Rattle.commands.specs.declared.form.Form.{Form}
 use Rattle.commands.specs.Pair.{Pair, pair}
 use Rattle.commands.specs.Command.{Command, variable, function, misshapen, command, Chain, default, arm, chain, tests, key}

@@ -17,8 +17,8 @@ use Rattle.sorts.specs.Result.{Result, ok, refused, _>>=_, unless}
 use Rattle.sorts.specs.Sort.{readSort}
 use Rattle.values.specs.Normal.{normal, arrangedValues}
 use Rattle.values.specs.Text.{text, hex, hexDigit}
-use Rattle.literals.specs.Literal.{read}
-use Rattle.literals.specs.Samples.{word, of}
+use Rattle.means.specs.Literal.{read}
+use Rattle.means.specs.Samples.{word, of}
 use Rattle.commands.specs.Command.{command, chain, tests, key}
 use Rattle.model.specs.Model.{Definition, readChain, readTests, readParts, readReply, readModel, lastVariable, lastFunction}
 use Rattle.model.specs.Listing.{rendered, listing}

@@ -35,7 +35,7 @@ use Rattle.values.specs.Text.{text, texts}
 use Rattle.values.specs.Normal.{normal, normals}
 use Rattle.values.specs.HasSort.{HasSort, Loose}
 use Rattle.literals.specs.Answer.{capped}
-use Rattle.literals.specs.Literal.{Lit, unsigned, numbered, read}
+use Rattle.means.specs.Literal.{Lit, unsigned, numbered, read}
 use Rattle.well_sorted.proofs.Results.{refuses}
 use Rattle.value_text.specs.declared.made.Made.{Made}
 use Rattle.value_text.specs.Leaf.{IndexedText, EntityText}

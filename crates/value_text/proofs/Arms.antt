@@ -22,8 +22,8 @@ use Rattle.sorts.specs.Result.{ok}
 use Rattle.sorts.specs.Sort.{readSort}
 use Rattle.values.specs.Value.{Value, Values, vBool, vString, vExt, vBits, vNone, vSome, vSet, vEntity, vRecord, vNil, vCons, union as both}
 use Rattle.values.specs.HasSort.{FieldSorts, Loose}
-use Rattle.literals.specs.Literal.{Lit, unsigned, numbered, entityLit, fieldsOf, sameCount, madeRow, appLit, read}
-use Rattle.literals.proofs.Unions.{held-set}
+use Rattle.means.specs.Literal.{Lit, unsigned, numbered, entityLit, fieldsOf, sameCount, madeRow, appLit, read}
+use Rattle.values.proofs.Holds.{held-set}
 use Rattle.well_sorted.proofs.Results.{refuses, ok-same, went, passed, was-found}
 use Rattle.well_sorted.proofs.Readings.{Reading, r-bits, r-string, r-true, r-false, r-member, reading}
 use Rattle.value_text.specs.Value.{Listed, l-nil, l-cons}

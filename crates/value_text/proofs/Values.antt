@@ -22,7 +22,7 @@ use Rattle.values.specs.Value.{Value, vString, vBits, vSet}
 use Rattle.values.specs.Text.{text}
 use Rattle.values.specs.Normal.{normal}
 use Rattle.values.specs.HasSort.{HasSort, Loose}
-use Rattle.literals.specs.Literal.{Lit, read}
+use Rattle.means.specs.Literal.{Lit, read}
 use Rattle.well_sorted.proofs.Results.{refuses, ok-same, went}
 use Rattle.well_sorted.proofs.Readings.{Reading, r-true, r-false, r-member, reading}
 use Rattle.value_text.specs.declared.open.Opened.{Opened}

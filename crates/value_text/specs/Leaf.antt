@@ -11,7 +11,7 @@ use Rattle.shapes.specs.Shows.{Standing}
 use Rattle.sorts.specs.Result.{ok}
 use Rattle.values.specs.Value.{vBits, vEntity}
 use Rattle.values.specs.Text.{text}
-use Rattle.literals.specs.Literal.{Lit, unsigned, numbered, wordLit}
+use Rattle.means.specs.Literal.{Lit, unsigned, numbered, wordLit}
 
 -- the number that the digits are, at a width
 abbrev pub IndexedText : List ℕ → ℕ → List ℕ → List ℕ → ℕ → Type 0

@@ -17,7 +17,7 @@ use Rattle.values.specs.Value.{Value, Values, vSet}
 use Rattle.values.specs.Text.{text, texts}
 use Rattle.values.specs.Normal.{normal, normals}
 use Rattle.values.specs.HasSort.{HasSort, HaveSort, Loose}
-use Rattle.literals.specs.Literal.{Lit, read, appLit}
+use Rattle.means.specs.Literal.{Lit, read, appLit}
 use Rattle.value_text.specs.declared.open.Opened.{Opened}
 use Rattle.value_text.specs.Laid.{Lays}
 use Rattle.value_text.specs.Value.{Given, Listed, onward, Writes}

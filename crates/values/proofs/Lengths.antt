@@ -3,13 +3,14 @@
 use mathlib.Core.Path.{_≡_, refl, ap, _∙_}
 use mathlib.Core.Bool.{true, false}
 use mathlib.Core.List.{List, [], _∷_, _++_}
-use Prim.Native.Nat.{ℕ, zero, suc, _+_, _-_, _*_, _/_, _%_}
+use Prim.Native.Nat.{ℕ, zero, suc, _+_, _-_, _*_, _/_, _%_, _≤_}
 use native.Mathlib.Omega.{arith}
 use lib.IntN.{ℤ, pos, negsuc}
 use lib.ListN.{length, length-append}
 use Rattle.ground.specs.Bytes.{bytes}
 use Rattle.ground.specs.Lists.{joined}
 use Rattle.decimals.specs.Decimal.{decimal, digitCount, signedDecimal}
+use Rattle.decimals.proofs.Counts.{count-most}
 use Rattle.decimals.proofs.Texts.{length-decimal}
 use Rattle.tables.specs.Sort.{Ext, decimal as isDecimal, datetime, duration}
 use Rattle.values.specs.Value.{Value, Values, vBool, vString, vExt, vBits, vNone, vSome, vSet, vEntity, vRecord, vNil, vCons, union}
@@ -36,6 +37,10 @@ length-natural n = length-decimal n
 pub length-negative : (n : ℕ) → length (signedDecimal (negsuc n)) ≡ digitCount (suc n) + 1
 unfolding signedDecimal
 length-negative n = let h = length-decimal (suc n) in omega arith
+
+pub signed-most : (z : ℤ) → length (signedDecimal z) ≤ 41
+signed-most (pos n) = omega (arith, length-natural n, count-most n)
+signed-most (negsuc n) = omega (arith, length-negative n, count-most (suc n))
 
 -- the members, each with what follows it
 abbrev pub size : Values → ℕ

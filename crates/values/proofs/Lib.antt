@@ -1,4 +1,6 @@
 pub mod Alls
+pub mod Holds
+pub mod Decisions
 pub mod Bytes
 pub mod Digits
 pub mod Forms

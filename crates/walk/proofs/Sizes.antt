@@ -20,7 +20,7 @@ use Rattle.sorts.specs.Sort.{levels}
 use Rattle.values.specs.Text.{text}
 use Rattle.values.specs.Value.{Value, vBool}
 use Rattle.values.proofs.Lengths.{length-true, length-false}
-use Rattle.literals.specs.Literal.{Lit, read}
+use Rattle.means.specs.Literal.{Lit, read}
 use Rattle.well_sorted.proofs.Finds.{at-within}
 use Rattle.well_sorted.proofs.Results.{refuses, ok-same, went, passed, was-found}
 use Rattle.well_sorted.proofs.Sizes.{roomBy, roomsBy, rooms-cons, read-short}

@@ -15,7 +15,7 @@ use Rattle.shapes.specs.SortShape.{SortShape, word, widthOf, optionOf as option
 use Rattle.sorts.specs.Result.{Result, ok, _>>=_, unless}
 use Rattle.sorts.specs.Sort.{sortOf, readSort}
 use Rattle.values.specs.Value.{Values}
-use Rattle.literals.specs.Literal.{Lit, fieldsOf, madeRow, appLit, read}
+use Rattle.means.specs.Literal.{Lit, fieldsOf, madeRow, appLit, read}
 use Rattle.well_sorted.proofs.Results.{refuses, went}
 
 -- onwards, by another first step

@@ -26,7 +26,7 @@ use Rattle.values.specs.Value.{Value, Values, vSet}
 use Rattle.values.specs.HasSort.{HasSort, FieldSorts, Loose}
 use Rattle.values.proofs.Digits.{InWord}
 use Rattle.values.proofs.Unions.{union-fits}
-use Rattle.literals.specs.Literal.{Lit, unsigned, numbered, read}
+use Rattle.means.specs.Literal.{Lit, unsigned, numbered, read}
 use Rattle.well_sorted.specs.Octets.{Octets, OctetsAll}
 use Rattle.well_sorted.proofs.Results.{refuses, ok-same}
 use Rattle.well_sorted.proofs.Readings.{FieldReadings, f-nil, f-cons, Reading, r-bits, r-string, r-true, r-false, r-member, r-none, r-asSome, r-some, r-empty, r-singleton, r-union, r-extension, r-indexed, r-entity, r-record, reading}

@@ -9,7 +9,8 @@ use Rattle.tables.proofs.Places.{none-some, some-one}
 use Rattle.values.specs.Value.{Value, Values, vSet}
 use Rattle.values.specs.HasSort.{HasSort, HaveSort}
 use Rattle.values.proofs.Forms.{form}
-use Rattle.literals.specs.Literal.{optionIn, setIn, held}
+use Rattle.values.specs.Holds.{held}
+use Rattle.means.specs.Literal.{optionIn, setIn}
 
 pub option-inside : (o : Option Sort) (q : ℕ) → optionIn o ≡ some q → o ≡ some (optionOf q)
 option-inside none q e = absurd (none-some e)

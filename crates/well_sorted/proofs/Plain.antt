@@ -24,7 +24,8 @@ use Rattle.shapes.specs.SortShape.{SortShape, word, widthOf, optionOf as option
 use Rattle.sorts.specs.Result.{Result, ok, refused, _>>=_, unless, found}
 use Rattle.sorts.specs.Sort.{rowOf, sortWord, sortOf, readSort}
 use Rattle.values.specs.Value.{Value, vBool, vString, vBits}
-use Rattle.literals.specs.Literal.{Lit, optionIn, setIn, unsigned, numbered, entityLit, sameCount, fieldsOf, held, unionLit, litOf, expectIn, someLit, widthLit, madeRow, appLit, memberLit, atRow, read}
+use Rattle.values.specs.Holds.{held}
+use Rattle.means.specs.Literal.{Lit, optionIn, setIn, unsigned, numbered, entityLit, sameCount, fieldsOf, unionLit, litOf, expectIn, someLit, widthLit, madeRow, appLit, memberLit, atRow, read}
 
 abbrev pub Plain : {A : Type 0} → Result A → Type 0
 Plain (ok a) = Unit {0}

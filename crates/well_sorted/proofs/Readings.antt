@@ -23,8 +23,8 @@ use Rattle.shapes.specs.Shape.{Shape, is, shape}
 use Rattle.sorts.specs.Result.{ok}
 use Rattle.sorts.specs.Sort.{readSort}
 use Rattle.values.specs.Value.{Value, Values, vBool, vString, vExt, vBits, vNone, vSome, vSet, vEntity, vRecord, vNil, vCons, union as both, members}
-use Rattle.literals.specs.Literal.{Lit, lit, optionIn, setIn, unsigned, numbered, litOf, expectIn, indexedLit, entityLit, sameCount, fieldsOf, madeRow, appLit, memberLit, atRow, wordLit, read}
-use Rattle.literals.proofs.Unions.{held-set}
+use Rattle.means.specs.Literal.{Lit, lit, optionIn, setIn, unsigned, numbered, litOf, expectIn, indexedLit, entityLit, sameCount, fieldsOf, madeRow, appLit, memberLit, atRow, wordLit, read}
+use Rattle.values.proofs.Holds.{held-set}
 use Rattle.well_sorted.proofs.Results.{refuses, ok-same, went, passed, was-found}
 use Rattle.well_sorted.proofs.Views.{extName, call1, call2, View, v-operator, v-asNone, v-asSome, v-someOf, v-asEmpty, v-singleton, v-union, v-extension, v-indexed, v-made, v-other, view}
 use Rattle.well_sorted.proofs.Insides.{option-inside, set-inside}

@@ -11,7 +11,7 @@ use Rattle.tables.specs.Rules.{lawful}
 use Rattle.tables.proofs.Lawful.{Lawful, lawful-parts}
 use Rattle.sorts.specs.Result.{ok}
 use Rattle.values.specs.Value.{Value}
-use Rattle.literals.specs.Literal.{Lit, read}
+use Rattle.means.specs.Literal.{Lit, read}
 use Rattle.well_sorted.proofs.Results.{refuses}
 use Rattle.well_sorted.proofs.Sorts.{There, there-within}
 use Rattle.well_sorted.proofs.Readings.{Reading, r-bits, r-string, r-true, r-false, r-member, r-none, r-asSome, r-some, r-empty, r-singleton, r-union, r-extension, r-indexed, r-entity, r-record, reading}

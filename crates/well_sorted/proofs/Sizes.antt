@@ -19,9 +19,8 @@ use Rattle.tables.proofs.Lawful.{Lawful, lawful-parts}
 use Rattle.sorts.specs.Result.{ok}
 use Rattle.values.specs.Value.{Value, Values, vExt, vBits, vSet, vEntity, vNil, vCons, union}
 use Rattle.values.specs.Text.{text}
-use Rattle.values.proofs.Lengths.{size, size-union, length-true, length-false, length-string, length-ext, length-bits, length-none, length-some, length-set, length-entity, length-record}
-use Rattle.literals.specs.Literal.{Lit, read}
-use Rattle.literals.proofs.Words.{signed-most}
+use Rattle.values.proofs.Lengths.{signed-most, size, size-union, length-true, length-false, length-string, length-ext, length-bits, length-none, length-some, length-set, length-entity, length-record}
+use Rattle.means.specs.Literal.{Lit, read}
 use Rattle.well_sorted.proofs.Results.{refuses}
 use Rattle.well_sorted.proofs.Views.{call2}
 use Rattle.well_sorted.proofs.Readings.{FieldReadings, f-nil, f-cons, Reading, r-bits, r-string, r-true, r-false, r-member, r-none, r-asSome, r-some, r-empty, r-singleton, r-union, r-extension, r-indexed, r-entity, r-record, reading}

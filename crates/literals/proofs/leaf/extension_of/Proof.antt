@@ -2,7 +2,8 @@ use mathlib.Core.Path.{ap}
 use Prim.Native.Nat.{ℕ, _+_}
 use native.Mathlib.Omega.{arith}
 use Rattle.decimals.proofs.Magnitudes.{back}
-use Rattle.literals.proofs.Words.{signed-most, extension-value}
+use Rattle.values.proofs.Lengths.{signed-most}
+use Rattle.literals.proofs.Words.{extension-value}
 use borrow.Author.Needs.{needs}
 use Rattle.literals.proofs.leaf.extension_of.Statement.{statement}
 use Rattle.literals.proofs.leaf.extension_of.Tie as tie

@@ -1,4 +1,4 @@
--- Demand 3, SMT-LIB's `=`: whether two values are one. What is decided stands in the type of `equal`; how it is decided, by a copy of the values, does not matter.
+-- Demand 3 and document 02, R-2, SMT-LIB's `=`: whether two values are one. What is decided stands in the type of `equal`; how it is decided, by a copy of the values, does not matter.
 use mathlib.Core.Path.{_≡_, refl, ap, ap₂, sym, _∙_}
 use mathlib.Core.Bool.{Bool, true, false, cond, Bool-discrete}
 use mathlib.Core.List.{List, List-discrete}

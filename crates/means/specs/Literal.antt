@@ -17,6 +17,7 @@ use Rattle.tables.specs.Find.{namedSort, memberRow}
 use Rattle.shapes.specs.Shape.{is, Shape, operator, asNone, asSome, someOf, asEmpty, singleton, union, extension, indexed, made, other, shape}
 use Rattle.sorts.specs.Result.{Result, ok, refused, _>>=_, unless, found}
 use Rattle.sorts.specs.Sort.{rowOf, readSort}
+use Rattle.values.specs.Holds.{held}
 use Rattle.values.specs.Value.{Value, Values, vBool, vString, vExt, vBits, vNone, vSome, vSet, vEntity, vRecord, vNil, vCons, union as both}
 
 -- a literal read: the row of its sort, and its value as it was written
@@ -82,18 +83,6 @@ fieldsOf below [] us = ok vNil
 fieldsOf below (f ∷ fs) nil = ok vNil
 fieldsOf below (f ∷ fs) (cons u us) =
     below (some f) u >>= λ l. unless (eqb (l .row) f) UnmatchedFieldType (fieldsOf below fs us >>= λ vs. ok (vCons (l .value) vs))
-
--- what a set holds
-abbrev pub held : Value → Option Values
-held (vBool b) = none
-held (vString s) = none
-held (vExt e z) = none
-held (vBits w n) = none
-held vNone = none
-held (vSome v) = none
-held (vSet vs) = some vs
-held (vEntity row s) = none
-held (vRecord row vs) = none
 
 -- two of one sort (16), both sets (28)
 abbrev pub unionLit : Lit → Lit → Result Lit

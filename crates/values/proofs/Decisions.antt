@@ -3,8 +3,8 @@
 use mathlib.Core.Path.{_≡_, refl, sym, _∙_}
 use mathlib.Core.Bool.{true, false, true≢false}
 use Rattle.ground.proofs.Tests.{by-test}
 use Rattle.values.specs.Value.{Value}
-use Rattle.demand.specs.Equal.{decided, equal}
+use Rattle.values.specs.Equal.{decided, equal}
 
 pub decided-yes : {A : Type 0} (d : Dec A) → A → decided d ≡ true
 decided-yes (yes b) a = refl
