@@ -11,11 +11,13 @@ use Rattle.arena.specs.Node.{afterAt}
 use Rattle.arena.specs.Text.{textIs}
 use Rattle.arena.specs.Tree.{Tree, Trees, bitVec, numeral, string, symbol, app, nil, cons}
 use Rattle.shapes.specs.declared.shape.Found.{Found}
+use Rattle.shapes.specs.declared.shape.BinaryOp.{BinaryOp}
 use Rattle.shapes.specs.declared.shape.Kind.{Kind}
+use Rattle.shapes.specs.declared.shape.UnaryOp.{UnaryOp}
 use Rattle.shapes.specs.declared.look.Wide.{Wide}
 use Rattle.shapes.specs.Shape.{Shape, made, is, onSymbol, onNumeral, onBitVec, onApp, extShape, one, two, pairShape}
 use Rattle.shapes.specs.Shows.{Standing, Reads, Shows, OneAt, TwoAt, WideAt}
-use Rattle.shapes.proofs.Stood.{first-of, others-of, said-so}
+use Rattle.shapes.proofs.Stood.{first-of, second-of, said-so}
 
 -- a tree that is of another kind
 pub not-symbol {ℓ} : {A : Type ℓ} (a : Tree) (d : A) (k : List ℕ → A) → onSymbol a false (λ s. true) ≡ false → onSymbol a d k ≡ d
@@ -88,11 +90,11 @@ module _ (ws ts : List ℕ) (offset size first : ℕ) where
         shown-as ws ts (Found.Made offset size first 1) (extShape f a) (made f (cons a nil)) (subst (λ (b : Tree). extShape f b ≡ made f (cons b nil)) (sym (g .1)) e) (one-made f a r s)
 
   -- (f a)
-  pub one-not : Says (bytes "not") true → OneAt one ws ts offset size first Found.Operator
-  one-not h0 f a r s = rw (so f r "not" true h0)
+  pub one-not : Says (bytes "not") true → OneAt one ws ts offset size first (Found.Unary UnaryOp.Not first)
+  one-not h0 f a r s = (a, rw (so f r "not" true h0), s)
 
-  pub one-bvnego : Says (bytes "not") false → Says (bytes "bvnego") true → OneAt one ws ts offset size first Found.Operator
-  one-bvnego h0 h1 f a r s = rw (so f r "not" false h0, so f r "bvnego" true h1)
+  pub one-bvnego : Says (bytes "not") false → Says (bytes "bvnego") true → OneAt one ws ts offset size first (Found.Unary UnaryOp.Bvnego first)
+  one-bvnego h0 h1 f a r s = (a, rw (so f r "not" false h0, so f r "bvnego" true h1), s)
 
   pub one-some : Says (bytes "not") false → Says (bytes "bvnego") false → Says (bytes "some") true → OneAt one ws ts offset size first (Found.SomeOf first)
   one-some h0 h1 h2 f a r s = (a, rw (so f r "not" false h0, so f r "bvnego" false h1, so f r "some" true h2), s)
@@ -104,27 +106,26 @@ module _ (ws ts : List ℕ) (offset size first : ℕ) where
   one-ext h0 h1 h2 h3 q k f a r s = shown-as ws ts q (one f a) (extShape f a) (rw (so f r "not" false h0, so f r "bvnego" false h1, so f r "some" false h2, so f r "set.singleton" false h3)) (k f a r s)
 
   -- (f a b)
-  pub two-or : Says (bytes "or") true → TwoAt two ws ts offset size first Found.Operator
-  two-or h0 f a b r s = rw (so f r "or" true h0)
+  module _ (second : ℕ) (next : second ≡ afterAt ws first) where
+    pub two-or : Says (bytes "or") true → TwoAt two ws ts offset size first (Found.Binary BinaryOp.Or first second)
+    two-or h0 f a b r s = (a, b, rw (so f r "or" true h0), first-of ws ts a (cons b nil) first 2 s, second-of ws ts first second next a b s)
 
-  pub two-equal : Says (bytes "or") false → Says (bytes "=") true → TwoAt two ws ts offset size first Found.Operator
-  two-equal h0 h1 f a b r s = rw (so f r "or" false h0, so f r "=" true h1)
+    pub two-equal : Says (bytes "or") false → Says (bytes "=") true → TwoAt two ws ts offset size first (Found.Binary BinaryOp.Equal first second)
+    two-equal h0 h1 f a b r s = (a, b, rw (so f r "or" false h0, so f r "=" true h1), first-of ws ts a (cons b nil) first 2 s, second-of ws ts first second next a b s)
 
-  pub two-bvsaddo : Says (bytes "or") false → Says (bytes "=") false → Says (bytes "bvsaddo") true → TwoAt two ws ts offset size first Found.Operator
-  two-bvsaddo h0 h1 h2 f a b r s = rw (so f r "or" false h0, so f r "=" false h1, so f r "bvsaddo" true h2)
+    pub two-bvsaddo : Says (bytes "or") false → Says (bytes "=") false → Says (bytes "bvsaddo") true → TwoAt two ws ts offset size first (Found.Binary BinaryOp.Bvsaddo first second)
+    two-bvsaddo h0 h1 h2 f a b r s = (a, b, rw (so f r "or" false h0, so f r "=" false h1, so f r "bvsaddo" true h2), first-of ws ts a (cons b nil) first 2 s, second-of ws ts first second next a b s)
 
-  pub two-bvsmulo : Says (bytes "or") false → Says (bytes "=") false → Says (bytes "bvsaddo") false → Says (bytes "bvsmulo") true → TwoAt two ws ts offset size first Found.Operator
-  two-bvsmulo h0 h1 h2 h3 f a b r s = rw (so f r "or" false h0, so f r "=" false h1, so f r "bvsaddo" false h2, so f r "bvsmulo" true h3)
+    pub two-bvsmulo : Says (bytes "or") false → Says (bytes "=") false → Says (bytes "bvsaddo") false → Says (bytes "bvsmulo") true → TwoAt two ws ts offset size first (Found.Binary BinaryOp.Bvsmulo first second)
+    two-bvsmulo h0 h1 h2 h3 f a b r s = (a, b, rw (so f r "or" false h0, so f r "=" false h1, so f r "bvsaddo" false h2, so f r "bvsmulo" true h3), first-of ws ts a (cons b nil) first 2 s, second-of ws ts first second next a b s)
 
-  pub two-union : Says (bytes "or") false → Says (bytes "=") false → Says (bytes "bvsaddo") false → Says (bytes "bvsmulo") false → Says (bytes "set.union") true → (second : ℕ) → second ≡ afterAt ws first → TwoAt two ws ts offset size first (Found.Union first second)
-  two-union h0 h1 h2 h3 h4 second e f a b r s =
-      let o = others-of ws ts a (cons b nil) first 2 s second 1 e refl in
-      (a, b, rw (so f r "or" false h0, so f r "=" false h1, so f r "bvsaddo" false h2, so f r "bvsmulo" false h3, so f r "set.union" true h4), first-of ws ts a (cons b nil) first 2 s, first-of ws ts b nil second 1 o)
+    pub two-union : Says (bytes "or") false → Says (bytes "=") false → Says (bytes "bvsaddo") false → Says (bytes "bvsmulo") false → Says (bytes "set.union") true → TwoAt two ws ts offset size first (Found.Union first second)
+    two-union h0 h1 h2 h3 h4 f a b r s = (a, b, rw (so f r "or" false h0, so f r "=" false h1, so f r "bvsaddo" false h2, so f r "bvsmulo" false h3, so f r "set.union" true h4), first-of ws ts a (cons b nil) first 2 s, second-of ws ts first second next a b s)
 
-  pub two-v4 : Says (bytes "or") false → Says (bytes "=") false → Says (bytes "bvsaddo") false → Says (bytes "bvsmulo") false → Says (bytes "set.union") false → Says (bytes "V4") true → TwoAt two ws ts offset size first Found.Operator
+  pub two-v4 : Says (bytes "or") false → Says (bytes "=") false → Says (bytes "bvsaddo") false → Says (bytes "bvsmulo") false → Says (bytes "set.union") false → Says (bytes "V4") true → TwoAt two ws ts offset size first Found.Uncovered
   two-v4 h0 h1 h2 h3 h4 h5 f a b r s = rw (so f r "or" false h0, so f r "=" false h1, so f r "bvsaddo" false h2, so f r "bvsmulo" false h3, so f r "set.union" false h4, so f r "V4" true h5)
 
-  pub two-v6 : Says (bytes "or") false → Says (bytes "=") false → Says (bytes "bvsaddo") false → Says (bytes "bvsmulo") false → Says (bytes "set.union") false → Says (bytes "V4") false → Says (bytes "V6") true → TwoAt two ws ts offset size first Found.Operator
+  pub two-v6 : Says (bytes "or") false → Says (bytes "=") false → Says (bytes "bvsaddo") false → Says (bytes "bvsmulo") false → Says (bytes "set.union") false → Says (bytes "V4") false → Says (bytes "V6") true → TwoAt two ws ts offset size first Found.Uncovered
   two-v6 h0 h1 h2 h3 h4 h5 h6 f a b r s = rw (so f r "or" false h0, so f r "=" false h1, so f r "bvsaddo" false h2, so f r "bvsmulo" false h3, so f r "set.union" false h4, so f r "V4" false h5, so f r "V6" true h6)
 
   pub two-pair : Says (bytes "or") false → Says (bytes "=") false → Says (bytes "bvsaddo") false → Says (bytes "bvsmulo") false → Says (bytes "set.union") false → Says (bytes "V4") false → Says (bytes "V6") false → (q : Found) → TwoAt pairShape ws ts offset size first q → TwoAt two ws ts offset size first q

@@ -33,12 +33,19 @@ module _ (ws ts : List ℕ) (offset size first many : ℕ) where
   applied-two q h k f (cons a (cons b nil)) r s = k f a b r (subst (λ (n : ℕ). StandingAll (cons a (cons b nil)) ws ts first n) h s)
   applied-two q h k f (cons a (cons b (cons c us))) r s = let c = s .many-are in absurd (omega arith)
 
-  pub applied-ite : many ≡ 3 → textIs ts offset size (bytes "ite") ≡ true → AppliedAt ws ts offset size first many Found.Operator
-  applied-ite h t f nil r s = let c = s .many-are in absurd (omega arith)
-  applied-ite h t f (cons a nil) r s = let c = s .many-are in absurd (omega arith)
-  applied-ite h t f (cons a (cons b nil)) r s = let c = s .many-are in absurd (omega arith)
-  applied-ite h t f (cons a (cons b (cons c nil))) r s = rw (said-so ts offset size f r (bytes "ite") true t)
-  applied-ite h t f (cons a (cons b (cons c (cons d us)))) r s = let c = s .many-are in absurd (omega arith)
+  pub applied-ite : many ≡ 3 → textIs ts offset size (bytes "ite") ≡ true → (second third : ℕ) → second ≡ afterAt ws first → third ≡ afterAt ws second →
+      AppliedAt ws ts offset size first many (Found.Ite first second third)
+  applied-ite h t second third p q f nil r s = let c = s .many-are in absurd (omega arith)
+  applied-ite h t second third p q f (cons a nil) r s = let c = s .many-are in absurd (omega arith)
+  applied-ite h t second third p q f (cons a (cons b nil)) r s = let c = s .many-are in absurd (omega arith)
+  applied-ite h t second third p q f (cons a (cons b (cons c nil))) r s =
+      let o = others-of ws ts a (cons b (cons c nil)) first many s second 2 p (s .many-are) in
+      let u = others-of ws ts b (cons c nil) second 2 o third 1 q refl in
+      (
+        a, b, c, rw (said-so ts offset size f r (bytes "ite") true t),
+        first-of ws ts a (cons b (cons c nil)) first many s, first-of ws ts b (cons c nil) second 2 o, first-of ws ts c nil third 1 u,
+      )
+  applied-ite h t second third p q f (cons a (cons b (cons c (cons d us)))) r s = let c = s .many-are in absurd (omega arith)
 
   pub applied-three : many ≡ 3 → textIs ts offset size (bytes "ite") ≡ false → AppliedAt ws ts offset size first many (Found.Made offset size first many)
   applied-three h t f nil r s = let c = s .many-are in absurd (omega arith)

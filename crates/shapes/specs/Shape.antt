@@ -8,10 +8,15 @@ use Rattle.ground.specs.Bytes.{bytes}
 use Rattle.arena.specs.Text.{sameText}
 use Rattle.arena.specs.Tree.{Tree, Trees, bitVec, numeral, string, symbol, app, nil, cons}
 use Rattle.tables.specs.Sort.{Ext, decimal, datetime, duration}
+use Rattle.shapes.specs.declared.shape.UnaryOp.{UnaryOp}
+use Rattle.shapes.specs.declared.shape.BinaryOp.{BinaryOp}
 
 -- an arm, and the trees that it hands on
 pub data Shape : Type 0 where
-  operator : Shape
+  unary : UnaryOp → Tree → Shape
+  binary : BinaryOp → Tree → Tree → Shape
+  ite : Tree → Tree → Tree → Shape
+  uncovered : Shape
   asNone : Tree → Shape
   asSome : Tree → Tree → Shape
   someOf : Tree → Shape
@@ -72,10 +77,11 @@ extShape f a =
 -- (f a)
 abbrev pub one : List ℕ → Tree → Shape
 one f a =
-    cond (is f "not" || is f "bvnego") operator
+    cond (is f "not") (unary UnaryOp.Not a)
+    (cond (is f "bvnego") (unary UnaryOp.Bvnego a)
     (cond (is f "some") (someOf a)
     (cond (is f "set.singleton") (singleton a)
-    (extShape f a)))
+    (extShape f a))))
 
 -- what follows `bv` in a name that starts with it
 abbrev pub onBv {ℓ} : {A : Type ℓ} → List ℕ → A → (List ℕ → A) → A
@@ -103,20 +109,23 @@ pairShape f a b = onSymbol a (made f (cons a (cons b nil))) (λ g. wordShape f g
 -- (f a b)
 abbrev pub two : List ℕ → Tree → Tree → Shape
 two f a b =
-    cond (is f "or" || is f "=" || is f "bvsaddo" || is f "bvsmulo") operator
+    cond (is f "or") (binary BinaryOp.Or a b)
+    (cond (is f "=") (binary BinaryOp.Equal a b)
+    (cond (is f "bvsaddo") (binary BinaryOp.Bvsaddo a b)
+    (cond (is f "bvsmulo") (binary BinaryOp.Bvsmulo a b)
     (cond (is f "set.union") (union a b)
-    (cond (is f "V4" || is f "V6") operator
-    (pairShape f a b)))
+    (cond (is f "V4" || is f "V6") uncovered
+    (pairShape f a b))))))
 
 -- (f a b c)
-abbrev pub three : List ℕ → Trees → Shape
-three f us = cond (is f "ite") operator (made f us)
+abbrev pub three : List ℕ → Tree → Tree → Tree → Shape
+three f a b c = cond (is f "ite") (ite a b c) (made f (cons a (cons b (cons c nil))))
 
 abbrev pub applied : List ℕ → Trees → Shape
 applied f nil = made f nil
 applied f (cons a nil) = one f a
 applied f (cons a (cons b nil)) = two f a b
-applied f (cons a (cons b (cons c nil))) = three f (cons a (cons b (cons c nil)))
+applied f (cons a (cons b (cons c nil))) = three f a b c
 applied f (cons a (cons b (cons c (cons d us)))) = made f (cons a (cons b (cons c (cons d us))))
 
 -- ((as some T) v)

@@ -16,7 +16,7 @@ use Rattle.shapes.specs.declared.look.Word.{Word}
 use Rattle.shapes.specs.declared.look.Index.{Index}
 use Rattle.shapes.specs.declared.look.Wide.{Wide}
 use Rattle.shapes.specs.declared.look.Parts.{Parts}
-use Rattle.shapes.specs.Shape.{Shape, operator, asNone, asSome, someOf, asEmpty, singleton, union, extension, indexed, made, other, onSymbol, onNumeral, onBitVec, onApp, indexShape, applied, headed, shape}
+use Rattle.shapes.specs.Shape.{Shape, unary, binary, ite, uncovered, asNone, asSome, someOf, asEmpty, singleton, union, extension, indexed, made, other, onSymbol, onNumeral, onBitVec, onApp, indexShape, applied, headed, shape}
 
 -- the tree stands at the node, wherever it and its text end
 pub record Standing (t : Tree) (ws ts : List ℕ) (i : ℕ) : Type 0 where
@@ -45,7 +45,11 @@ extOf Kind.Datetime = datetime
 extOf Kind.Duration = duration
 
 abbrev pub Shows : List ℕ → List ℕ → Found → Shape → Type 0
-Shows ws ts Found.Operator s = s ≡ operator
+Shows ws ts (Found.Unary op value) s = (v : Tree) × (s ≡ unary op v) × Standing v ws ts value
+Shows ws ts (Found.Binary op left right) s = (v : Tree) × (w : Tree) × (s ≡ binary op v w) × Standing v ws ts left × Standing w ws ts right
+Shows ws ts (Found.Ite condition left right) s =
+    (c : Tree) × (v : Tree) × (w : Tree) × (s ≡ ite c v w) × Standing c ws ts condition × Standing v ws ts left × Standing w ws ts right
+Shows ws ts Found.Uncovered s = s ≡ uncovered
 Shows ws ts (Found.AsNone sort) s = (t : Tree) × (s ≡ asNone t) × Standing t ws ts sort
 Shows ws ts (Found.AsSome sort value) s = (t : Tree) × (v : Tree) × (s ≡ asSome t v) × Standing t ws ts sort × Standing v ws ts value
 Shows ws ts (Found.SomeOf value) s = (v : Tree) × (s ≡ someOf v) × Standing v ws ts value

@@ -21,9 +21,36 @@ pub enum Kind {
     Duration,
 }
 
+// The operators of one operand and of two that a solver may leave.
+pub enum UnaryOp {
+    Not,
+    Bvnego,
+}
+
+pub enum BinaryOp {
+    Or,
+    Equal,
+    Bvsaddo,
+    Bvsmulo,
+}
+
 // An arm, with the nodes, the text and the numbers that it hands on.
 pub enum Found {
-    Operator,
+    Unary {
+        op: UnaryOp,
+        value: usize,
+    },
+    Binary {
+        op: BinaryOp,
+        left: usize,
+        right: usize,
+    },
+    Ite {
+        condition: usize,
+        left: usize,
+        right: usize,
+    },
+    Uncovered,
     AsNone {
         sort: usize,
     },
@@ -108,10 +135,16 @@ fn one(nodes: &[u64], text: &[u8], offset: u64, size: u64, first: usize) -> Foun
     ensures { λ r. ⌜ OneAt one (now (nodes .entry)) (now (text .entry)) offset size first r ⌝ }
 {
     if text_is(text, offset, size, b"not") {
-        return Found::Operator;
+        return Found::Unary {
+            op: UnaryOp::Not,
+            value: first,
+        };
     }
     if text_is(text, offset, size, b"bvnego") {
-        return Found::Operator;
+        return Found::Unary {
+            op: UnaryOp::Bvnego,
+            value: first,
+        };
     }
     if text_is(text, offset, size, b"some") {
         return Found::SomeOf { value: first };
@@ -211,30 +244,46 @@ fn worded(nodes: &[u64], text: &[u8], offset: u64, size: u64, first: usize) -> F
 fn two(nodes: &[u64], text: &[u8], offset: u64, size: u64, first: usize) -> Found
     ensures { λ r. ⌜ TwoAt two (now (nodes .entry)) (now (text .entry)) offset size first r ⌝ }
 {
+    let second = after(nodes, first);
     if text_is(text, offset, size, b"or") {
-        return Found::Operator;
+        return Found::Binary {
+            op: BinaryOp::Or,
+            left: first,
+            right: second,
+        };
     }
     if text_is(text, offset, size, b"=") {
-        return Found::Operator;
+        return Found::Binary {
+            op: BinaryOp::Equal,
+            left: first,
+            right: second,
+        };
     }
     if text_is(text, offset, size, b"bvsaddo") {
-        return Found::Operator;
+        return Found::Binary {
+            op: BinaryOp::Bvsaddo,
+            left: first,
+            right: second,
+        };
     }
     if text_is(text, offset, size, b"bvsmulo") {
-        return Found::Operator;
+        return Found::Binary {
+            op: BinaryOp::Bvsmulo,
+            left: first,
+            right: second,
+        };
     }
     if text_is(text, offset, size, b"set.union") {
-        let second = after(nodes, first);
         return Found::Union {
             left: first,
             right: second,
         };
     }
     if text_is(text, offset, size, b"V4") {
-        return Found::Operator;
+        return Found::Uncovered;
     }
     if text_is(text, offset, size, b"V6") {
-        return Found::Operator;
+        return Found::Uncovered;
     }
     worded(nodes, text, offset, size, first)
 }
@@ -251,7 +300,13 @@ fn applied(nodes: &[u64], text: &[u8], offset: u64, size: u64, first: usize, cou
     }
     if count == 3 {
         if text_is(text, offset, size, b"ite") {
-            return Found::Operator;
+            let left = after(nodes, first);
+            let right = after(nodes, left);
+            return Found::Ite {
+                condition: first,
+                left,
+                right,
+            };
         }
     }
     Found::Made {

@@ -5,6 +5,7 @@ use Rattle.shapes.proofs.shape.applied.Statement.{statement}
 use Rattle.shapes.proofs.shape.applied.Tie as tie
 use Rattle.shapes.proofs.shape.applied.Reads as reads
 use Rattle.shapes.proofs.shape.applied.Lts as lts
+use Rattle.arena.proofs.after.Reads as after-reads
 use Rattle.arena.proofs.text_is.Reads as text-is-reads
 use Rattle.shapes.proofs.shape.one.Reads as one-reads
 use Rattle.shapes.proofs.shape.two.Reads as two-reads
@@ -16,7 +17,7 @@ returns-2 : tie.Need-returns-2
 returns-2 c = let a = c .before .before .before .before .before .args in applied-two (a .nodes .now) (a .text .now) (a .offset) (a .size) (a .first) (a .count) (c .two .result) (c .before .if2 .taken) (c .two .ensures)
 
 returns-3 : tie.Need-returns-3
-returns-3 c = let a = c .before .before .before .before .before .before .before .before .args in applied-ite (a .nodes .now) (a .text .now) (a .offset) (a .size) (a .first) (a .count) (c .before .before .before .if3 .taken) (sym (c .before .text-is .ensures) ∙ c .if4 .taken)
+returns-3 c = let a = c .before .before .before .before .before .before .before .before .before .before .args in applied-ite (a .nodes .now) (a .text .now) (a .offset) (a .size) (a .first) (a .count) (c .before .before .before .before .before .if3 .taken) (sym (c .before .before .before .text-is .ensures) ∙ c .before .before .if4 .taken) _ _ (c .before .after .ensures) (c .after2 .ensures)
 
 returns-4 : tie.Need-returns-4
 returns-4 c = let a = c .before .before .before .before .before .before .before .before .args in applied-three (a .nodes .now) (a .text .now) (a .offset) (a .size) (a .first) (a .count) (c .before .before .before .if3 .taken) (sym (c .before .text-is .ensures) ∙ c .if4 .left)
@@ -33,6 +34,8 @@ applied-spec =
     (λ c κs. search needs)
     returns-2
     (λ c. search needs)
+    (λ c κs. search needs)
+    (λ c κs. search needs)
     (λ c κs. search needs)
     returns-3
     returns-4
