@@ -177,6 +177,6 @@ module _ (T : Tables) (x : List ℕ) (apart-name : apart T x ≡ true) where
         free-app _ (free-cons _ _ (free-symbol f (sort-apart row (recordOf f fs) k)) (free-fields fs us vs g))
 
   pub free-read : (allow : ℕ) (e : Option ℕ) (t : Tree) (l : Lit) → read T allow e t ≡ ok l → mentions t x ≡ false
-  unfolding read
+  unfolding readWith
   free-read zero e t l m = refuses m
   free-read (suc a) e t l m = free-reading a (λ o u k h. free-read a o u k h) e t (l .row) (l .value) (reading T a e t l m)

@@ -106,7 +106,7 @@ bodies :
     ∷ record { tablesRight = true; nameApart = false; keysOnce = true; given = some (vEntity 1 (bytes "y")); meant = none }
     ∷ record { tablesRight = false; nameApart = true; keysOnce = true; given = some (vEntity 1 (bytes "y")); meant = none }
     ∷ []
-unfolding lawful sortsRight all distinct any find at oneSymbol inSymbol classOf utf8 octets kept keptWords sameText before insert arranged sortRow namedSort memberRow shape sortShape _>>=_ unless readSort normal text read chain tests key readChain readTests equal unbarred mentions meaning firstOf apart noTwo
+unfolding lawful sortsRight all distinct any find at oneSymbol inSymbol classOf utf8 octets kept keptWords sameText before insert arranged sortRow namedSort memberRow shape sortShape _>>=_ unless readSort normal text readWith chain tests key readChain readTests equal unbarred mentions meaning firstOf apart noTwo
 bodies = refl
 
 -- a model of one command, and what it defines
@@ -115,7 +115,7 @@ variable sort value = of (of (word "define-fun" ∷ word "v" ∷ of [] ∷ word 
 
 -- a member of a bool row, which lawful tables have not: a variable's value is not of its sort
 member-read : (lawful (tables "E" 0) ≡ false) × (readModel (tables "E" 0) (variable "Bool" (word "m")) ≡ ok (isVariable 0 (vEntity 0 (bytes "x")) ∷ []))
-unfolding lawful sortsRight all distinct any oneSymbol inSymbol classOf utf8 octets kept keptWords find at sameText sortRow memberRow variableRow shape sortShape _>>=_ unless readSort read command readParts readReply
+unfolding lawful sortsRight all distinct any oneSymbol inSymbol classOf utf8 octets kept keptWords find at sameText sortRow memberRow variableRow shape sortShape _>>=_ unless readSort readWith command readParts readReply
 member-read = (refl, refl)
 
 member-unsorted : Sorted (tables "E" 0) 0 (vEntity 0 (bytes "x")) → ⊥
@@ -127,7 +127,7 @@ abbrev strings : Tables
 strings = record { sorts = string ∷ []; variables = record { name = bytes "v"; sort = 0 } ∷ []; functions = []; members = [] }
 
 string-read : (lawful strings ≡ true) × (readModel strings (variable "String" (quoted (0xFF ∷ []))) ≡ ok (isVariable 0 (vString (0xFF ∷ [])) ∷ []))
-unfolding lawful sortsRight all distinct any oneSymbol inSymbol classOf utf8 octets kept keptWords find at sameText sortRow variableRow shape sortShape _>>=_ unless readSort read command readParts readReply
+unfolding lawful sortsRight all distinct any oneSymbol inSymbol classOf utf8 octets kept keptWords find at sameText sortRow variableRow shape sortShape _>>=_ unless readSort readWith command readParts readReply
 string-read = (refl, refl)
 
 string-unsorted : Sorted strings 0 (vString (0xFF ∷ [])) → ⊥
@@ -152,7 +152,7 @@ model = of (of (word "define-fun" ∷ word "f" ∷ of (of (word "a" ∷ word "Bo
 
 met : (lawful complete ≡ true) × (apart complete (bytes "a") ≡ true) × (noTwo complete (from 0 1) (record { argument = bytes "a"; term = body }) ≡ true)
     × (readModel complete model ≡ ok (isFunction 0 (tableOf (armOf (vBool true) (vEntity 1 (bytes "x")) ∷ []) (vEntity 1 (bytes "y"))) ∷ []))
-unfolding lawful sortsRight all distinct any find at oneSymbol inSymbol classOf utf8 octets kept keptWords sameText sortRow namedSort functionRow memberRow shape sortShape _>>=_ unless readSort normal read command chain tests key readChain readParts readReply equal unbarred apart noTwo
+unfolding lawful sortsRight all distinct any find at oneSymbol inSymbol classOf utf8 octets kept keptWords sameText sortRow namedSort functionRow memberRow shape sortShape _>>=_ unless readSort normal readWith command chain tests key readChain readParts readReply equal unbarred apart noTwo
 met = (refl, refl, refl, refl)
 
 met-octets : Octets model

@@ -54,5 +54,5 @@ examples :
     ∷ means "a" (vBool true) (of (word "ite" ∷ word "a" ∷ word "true" ∷ word "b" ∷ []))
     ∷ []
     ≡ some (vBool false) ∷ some (vBool false) ∷ some (vBool true) ∷ some (vBool true) ∷ some (vBool true) ∷ some (vBool false) ∷ none ∷ none ∷ none ∷ []
-unfolding find at worth from all parsed sameText sortRow memberRow shape _>>=_ unless normal read equal unbarred mentions meaning ℕ-discrete
+unfolding find at worth from all parsed sameText sortRow memberRow shape _>>=_ unless normal readWith equal unbarred mentions meaning ℕ-discrete
 examples = refl

@@ -18,7 +18,7 @@ use Rattle.literals.specs.Plan.{Means, Given, PlansAt, DecodesAt, Fields
 
 module _ (sorts fields members names ws ts : List ℕ) (i : ℕ) (expected : Expected) (allow : ℕ) where
   pub literal-nested : allow ≡ 0 → DecodesAt sorts fields members names ws ts i expected allow (Literal.Refused TooNested)
-  unfolding read
+  unfolding readWith
   literal-nested z l g t s = ap (λ (a : ℕ). answer (read (tablesOf l) a (expectedOf expected) t)) (sym z)
 
   module _ (there : allow ≡ 0 → ⊥) (below : ℕ) (less : below ≡ allow - 1) (p : Plan) (planned : PlansAt sorts fields members names ws ts i expected below p) where

@@ -168,7 +168,7 @@ module _ (sorts : List ℕ) (most : ℕ) (names ws ts : List ℕ) (i : ℕ) (exp
 -- by the node
 module _ (sorts fields members names ws ts : List ℕ) (i : ℕ) (expected : Expected) (below : ℕ) where
   pub at-numeral : (low high : ℕ) → nodeAt ws i ≡ Numeral low high → PlansAt sorts fields members names ws ts i expected below (Plan.Done (Literal.Refused UnknownLiteral))
-  unfolding read
+  unfolding readWith
   at-numeral low high e l g (bitVec w n) s = let z = kinds ws ts i (bitVec w n) s in let y = ap kind e in absurd (omega arith)
   at-numeral low high e l g (numeral n) s = refl
   at-numeral low high e l g (string t) s = let z = kinds ws ts i (string t) s in let y = ap kind e in absurd (omega arith)
@@ -183,7 +183,7 @@ module _ (sorts fields members names ws ts : List ℕ) (i : ℕ) (expected : Exp
   at-nothing e l g (app us) s = let z = kinds ws ts i (app us) s in let y = ap kind e in absurd (omega arith)
 
   pub at-bits : (width low high : ℕ) → nodeAt ws i ≡ BitVec width low high → (a : Literal) → BitsOf sorts width a → PlansAt sorts fields members names ws ts i expected below (Plan.Done a)
-  unfolding read
+  unfolding readWith
   at-bits width low high e a k l g (bitVec w n) s =
       let same : _≡_ {A = Node} (BitVec w (n % 2 ^ 64) (n / 2 ^ 64)) (BitVec width low high) = sym (s .there .here) ∙ e in
       let v : w ≡ width = cc in
@@ -194,7 +194,7 @@ module _ (sorts fields members names ws ts : List ℕ) (i : ℕ) (expected : Exp
   at-bits width low high e a k l g (app us) s = let z = kinds ws ts i (app us) s in let y = ap kind e in absurd (omega arith)
 
   pub at-string : (size offset : ℕ) → nodeAt ws i ≡ String size offset → (a : Literal) → StringOf sorts size a → PlansAt sorts fields members names ws ts i expected below (Plan.Done a)
-  unfolding read
+  unfolding readWith
   at-string size offset e a k l g (bitVec w n) s = let z = kinds ws ts i (bitVec w n) s in let y = ap kind e in absurd (omega arith)
   at-string size offset e a k l g (numeral n) s = let z = kinds ws ts i (numeral n) s in let y = ap kind e in absurd (omega arith)
   at-string size offset e a k l g (string t) s =
@@ -205,14 +205,14 @@ module _ (sorts fields members names ws ts : List ℕ) (i : ℕ) (expected : Exp
   at-string size offset e a k l g (app us) s = let z = kinds ws ts i (app us) s in let y = ap kind e in absurd (omega arith)
 
   pub at-symbol : (size offset : ℕ) → nodeAt ws i ≡ Symbol size offset → (a : Literal) → WordOf sorts members names (textAt ts offset size) a → PlansAt sorts fields members names ws ts i expected below (Plan.Done a)
-  unfolding read
+  unfolding readWith
   at-symbol size offset e a k l g t s =
       let w = symbol-there ws i size offset e ts t s in
       k l (g .sorts-are) (g .members-are) (g .names-are) ∙ ap (λ (b : List ℕ). answer (wordLit (tablesOf l) b)) (w .2 .bytes)
       ∙ sym (ap (λ (x : Tree). answer (read (tablesOf l) (suc below) (expectedOf expected) x)) (w .1))
 
   pub at-app : (many end : ℕ) → nodeAt ws i ≡ App many end → (p : Plan) → PlansApp sorts (length fields) names ws ts i expected below p → PlansAt sorts fields members names ws ts i expected below p
-  unfolding read
+  unfolding readWith
   at-app many end e p k l g (bitVec w n) s = let z = kinds ws ts i (bitVec w n) s in let y = ap kind e in absurd (omega arith)
   at-app many end e p k l g (numeral n) s = let z = kinds ws ts i (numeral n) s in let y = ap kind e in absurd (omega arith)
   at-app many end e p k l g (string t) s = let z = kinds ws ts i (string t) s in let y = ap kind e in absurd (omega arith)

@@ -14,10 +14,14 @@ use Rattle.words.specs.Run.{parsed}
 use Rattle.arena.specs.Tree.{Tree, Trees, bitVec as bits, numeral, string as quoted, symbol, app, nil, cons}
 use Rattle.tables.specs.Sort.{Sort, bool, string, ext, bitVec, optionOf, setOf, entityOf, recordOf, Member, Tables}
 use Rattle.tables.specs.Find.{namedSort, memberRow}
-use Rattle.shapes.specs.Shape.{is, Shape, operator, asNone, asSome, someOf, asEmpty, singleton, union, extension, indexed, made, other, shape}
+use Rattle.shapes.specs.declared.shape.BinaryOp.{BinaryOp}
+use Rattle.shapes.specs.declared.shape.UnaryOp.{UnaryOp}
+use Rattle.shapes.specs.Shape.{is, Shape, unary, binary, ite, uncovered, asNone, asSome, someOf, asEmpty, singleton, union, extension, indexed, made, other, shape}
 use Rattle.sorts.specs.Result.{Result, ok, refused, _>>=_, unless, found}
 use Rattle.sorts.specs.Sort.{rowOf, readSort}
 use Rattle.values.specs.Holds.{held}
+use Rattle.values.specs.Normal.{normal}
+use Rattle.values.specs.Operators.{negated, either, equals, chosen, bvnego, bvsaddo, bvsmulo}
 use Rattle.values.specs.Value.{Value, Values, vBool, vString, vExt, vBits, vNone, vSome, vSet, vEntity, vRecord, vNil, vCons, union as both}
 
 -- a literal read: the row of its sort, and its value as it was written
@@ -90,6 +94,21 @@ unionLit l m =
     unless (eqb (l .row) (m .row)) UnmatchedType
     (found SetUnionNonLiterals (held (l .value)) >>= λ vs. found SetUnionNonLiterals (held (m .value)) >>= λ ws. ok (lit (l .row) (vSet (both vs ws))))
 
+-- R-2: what an operator makes of its operands, if their sorts fit; `=` is of values, whose sets are in order and without repeats
+abbrev pub unaryOf : UnaryOp → Lit → Option Value
+unaryOf UnaryOp.Not l = negated (l .value)
+unaryOf UnaryOp.Bvnego l = bvnego (l .value)
+
+abbrev pub binaryOf : BinaryOp → Lit → Lit → Option Value
+binaryOf BinaryOp.Or l m = either (l .value) (m .value)
+binaryOf BinaryOp.Equal l m = cond (eqb (l .row) (m .row)) (some (equals (normal (l .value)) (normal (m .value)))) none
+binaryOf BinaryOp.Bvsaddo l m = bvsaddo (l .value) (m .value)
+binaryOf BinaryOp.Bvsmulo l m = bvsmulo (l .value) (m .value)
+
+-- the branch that is taken, as it was written, of two of one sort
+abbrev pub iteLit : Lit → Lit → Lit → Result Lit
+iteLit c l m = unless (eqb (l .row) (m .row)) UnmatchedType (found UnmatchedType (chosen (c .value) (l .value) (m .value)) >>= λ v. ok (lit (l .row) v))
+
 module _ (T : Tables) where
   -- a value of a sort, where the sort has a row
   abbrev pub litOf : Sort → Value → Result Lit
@@ -123,6 +142,10 @@ module _ (T : Tables) where
   abbrev pub indexedLit : List ℕ → ℕ → Result Lit
   indexedLit digits w = numbered (parsed Radix.Decimal (unsigned digits)) >>= λ n. widthLit n w
 
+  -- what an operator gives is a bool: 16 where the sorts do not fit, then 23
+  abbrev pub boolLit : Option Value → Result Lit
+  boolLit o = found UnmatchedType o >>= λ v. litOf bool v
+
   module _ (sortBelow : Tree → Result ℕ) (below : Option ℕ → Tree → Result Lit) where
     -- (NAME ..), by NAME's row
     abbrev pub madeRow : ℕ → Option Sort → Trees → Result Lit
@@ -139,20 +162,23 @@ module _ (T : Tables) where
     abbrev pub madeLit : List ℕ → Trees → Result Lit
     madeLit name us = found UnknownLiteral (namedSort T name) >>= λ row. madeRow row (at (T .sorts) row) us
 
-    -- the arms, where a sort is expected or none
-    abbrev pub appLit : Option ℕ → Shape → Result Lit
-    appLit expected operator = refused NotCovered
-    appLit expected (asNone t) = sortBelow t >>= λ row. noneLit row
-    appLit expected (asSome t v) =
+    -- the arms, where a sort is expected or none; R-2's operators are worked out, or 22
+    abbrev pub appLit : Bool → Option ℕ → Shape → Result Lit
+    appLit worked expected (unary op v) = cond worked (below none v >>= λ l. boolLit (unaryOf op l)) (refused NotCovered)
+    appLit worked expected (binary op v w) = cond worked (below none v >>= λ l. below none w >>= λ m. boolLit (binaryOf op l m)) (refused NotCovered)
+    appLit worked expected (ite c v w) = cond worked (below none c >>= λ k. below expected v >>= λ l. below expected w >>= λ m. iteLit k l m) (refused NotCovered)
+    appLit worked expected uncovered = refused NotCovered
+    appLit worked expected (asNone t) = sortBelow t >>= λ row. noneLit row
+    appLit worked expected (asSome t v) =
         sortBelow t >>= λ row. below (optionIn (at (T .sorts) row)) v >>= λ l. someLit l >>= λ m. unless (eqb (m .row) row) UnmatchedType (ok m)
-    appLit expected (someOf v) = expectIn optionIn expected >>= λ q. below q v >>= λ l. someLit l
-    appLit expected (asEmpty t) = sortBelow t >>= λ row. emptyLit row
-    appLit expected (singleton v) = expectIn setIn expected >>= λ q. below q v >>= λ l. singletonLit l
-    appLit expected (union v w) = below expected v >>= λ l. below expected w >>= λ m. unionLit l m
-    appLit expected (extension x n) = litOf (ext x) (vExt x (signed 64 (n % 2 ^ 64)))
-    appLit expected (indexed digits w) = indexedLit digits w
-    appLit expected (made name us) = madeLit name us
-    appLit expected other = refused UnknownLiteral
+    appLit worked expected (someOf v) = expectIn optionIn expected >>= λ q. below q v >>= λ l. someLit l
+    appLit worked expected (asEmpty t) = sortBelow t >>= λ row. emptyLit row
+    appLit worked expected (singleton v) = expectIn setIn expected >>= λ q. below q v >>= λ l. singletonLit l
+    appLit worked expected (union v w) = below expected v >>= λ l. below expected w >>= λ m. unionLit l m
+    appLit worked expected (extension x n) = litOf (ext x) (vExt x (signed 64 (n % 2 ^ 64)))
+    appLit worked expected (indexed digits w) = indexedLit digits w
+    appLit worked expected (made name us) = madeLit name us
+    appLit worked expected other = refused UnknownLiteral
 
   abbrev pub memberLit : Option Member → Result Lit
   memberLit none = refused UnknownLiteral
@@ -170,10 +196,14 @@ module _ (T : Tables) where
       (memberLit (atRow (T .members) (memberRow T s))))
 
   -- the allowance is how many levels may still be read, this one among them
-  unfoldable pub read : ℕ → Option ℕ → Tree → Result Lit
-  read zero expected t = refused TooNested
-  read (suc allow) expected (bits w n) = litOf (bitVec w) (vBits w (n % 2 ^ w))
-  read (suc allow) expected (numeral n) = refused UnknownLiteral
-  read (suc allow) expected (quoted s) = litOf string (vString s)
-  read (suc allow) expected (symbol s) = wordLit s
-  read (suc allow) expected (app us) = appLit (λ t. readSort T allow t) (λ e u. read allow e u) expected (shape us)
+  unfoldable pub readWith : Bool → ℕ → Option ℕ → Tree → Result Lit
+  readWith worked zero expected t = refused TooNested
+  readWith worked (suc allow) expected (bits w n) = litOf (bitVec w) (vBits w (n % 2 ^ w))
+  readWith worked (suc allow) expected (numeral n) = refused UnknownLiteral
+  readWith worked (suc allow) expected (quoted s) = litOf string (vString s)
+  readWith worked (suc allow) expected (symbol s) = wordLit s
+  readWith worked (suc allow) expected (app us) = appLit (λ t. readSort T allow t) (λ e u. readWith worked allow e u) worked expected (shape us)
+
+  -- as document 01 has it, operators 22
+  abbrev pub read : ℕ → Option ℕ → Tree → Result Lit
+  read allow expected t = readWith false allow expected t

@@ -38,25 +38,25 @@ tables = record {
 
 -- fields too few, too many, and of another sort
 no-field : read tables 9 none (of (word "R" ∷ [])) ≡ refused UnmatchedRecordType
-unfolding read shape find at sameText sortRow namedSort memberRow _>>=_ unless
+unfolding readWith shape find at sameText sortRow namedSort memberRow _>>=_ unless
 no-field = refl
 
 two-fields : read tables 9 none (of (word "R" ∷ word "true" ∷ word "true" ∷ [])) ≡ refused UnmatchedRecordType
-unfolding read shape find at sameText sortRow namedSort memberRow _>>=_ unless
+unfolding readWith shape find at sameText sortRow namedSort memberRow _>>=_ unless
 two-fields = refl
 
 other-field : read tables 9 none (of (word "R" ∷ quoted [] ∷ [])) ≡ refused UnmatchedFieldType
-unfolding read shape find at sameText sortRow namedSort memberRow _>>=_ unless
+unfolding readWith shape find at sameText sortRow namedSort memberRow _>>=_ unless
 other-field = refl
 
 -- `some` where a record is expected
 no-option : read tables 9 (some 3) (of (word "some" ∷ word "true" ∷ [])) ≡ refused UnknownLiteral
-unfolding read shape find at sameText sortRow namedSort memberRow _>>=_ unless
+unfolding readWith shape find at sameText sortRow namedSort memberRow _>>=_ unless
 no-option = refl
 
 -- a field one level further than may be read
 too-deep : read tables 1 none (of (word "R" ∷ word "true" ∷ [])) ≡ refused TooNested
-unfolding read shape find at sameText sortRow namedSort memberRow _>>=_ unless
+unfolding readWith shape find at sameText sortRow namedSort memberRow _>>=_ unless
 too-deep = refl
 
 -- digits of widths 1, 4, 5, 127 and 128
@@ -71,5 +71,5 @@ abbrev ones : List (Result Lit)
 ones = read vectors 9 none (bitVec 127 (2 ^ 128 - 1)) ∷ read vectors 9 none (bitVec 4 (2 ^ 128 - 1)) ∷ []
 
 unsigned-read : ones ≡ ok (lit 0 (vBits 127 (2 ^ 127 - 1))) ∷ ok (lit 1 (vBits 4 15)) ∷ []
-unfolding read shape find at sameText sortRow namedSort memberRow _>>=_ unless
+unfolding readWith shape find at sameText sortRow namedSort memberRow _>>=_ unless
 unsigned-read = refl

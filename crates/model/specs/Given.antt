@@ -63,7 +63,7 @@ taken :
     ∷ (given "b" "true" ∷ of (word "z" ∷ of (word "z" ∷ []) ∷ []) ∷ given "|b|" "z" ∷ [])
     ∷ [])
     ≡ nothing ∷ one "true" ∷ one "false" ∷ nothing ∷ nothing ∷ nothing ∷ one "true" ∷ []
-unfolding find at sameText decimal lastDigits digitCountWithin sortRow namedSort variableRow functionRow memberRow shape _>>=_ unless normal text read readParts readReply lastVariable lastFunction rendered listing
+unfolding find at sameText decimal lastDigits digitCountWithin sortRow namedSort variableRow functionRow memberRow shape _>>=_ unless normal text readWith readParts readReply lastVariable lastFunction rendered listing
 taken = refl
 
 -- pair by pair: its shape, its literal, its sort; a pair that is replaced is checked too, and what stands behind a fault is not looked at
@@ -93,7 +93,7 @@ refusals :
     refused UnknownLiteral ∷ refused UnknownLiteral ∷ refused UnknownLiteral ∷ refused UnmatchedType
     ∷ refused UnexpectedModel ∷ refused UnexpectedModel ∷ refused UnexpectedModel ∷ refused UnexpectedModel ∷ refused UnexpectedModel
     ∷ []
-unfolding find at sameText decimal lastDigits digitCountWithin sortRow namedSort variableRow functionRow memberRow shape _>>=_ unless normal text read readParts readReply lastVariable lastFunction rendered listing
+unfolding find at sameText decimal lastDigits digitCountWithin sortRow namedSort variableRow functionRow memberRow shape _>>=_ unless normal text readWith readParts readReply lastVariable lastFunction rendered listing
 refusals = refl
 
 -- a root that is no list; of the two forms each is refused where the other is wanted, and () is a good reply of both
@@ -103,5 +103,5 @@ roots :
     ∷ listed (readModel tables (of []))
     ∷ []
     ≡ refused UnexpectedModel ∷ refused UnexpectedModel ∷ refused UnexpectedModel ∷ nothing ∷ []
-unfolding find at sameText decimal lastDigits digitCountWithin sortRow namedSort variableRow functionRow memberRow shape _>>=_ unless normal text read command readParts readReply lastVariable lastFunction rendered listing
+unfolding find at sameText decimal lastDigits digitCountWithin sortRow namedSort variableRow functionRow memberRow shape _>>=_ unless normal text readWith command readParts readReply lastVariable lastFunction rendered listing
 roots = refl

@@ -60,17 +60,17 @@ turned =
 
 sample : listed (readModel tables model) ≡
     ok (bytes "vars=1\nfuns=1\nvar=x\nsort=2\nvalue=some(bv8:ff)\nfun=f\narg=1\nout=0\nwhen=bv8:00\nthen=true\nwhen=bv8:01\nthen=true\nelse=false\n")
-unfolding joined find at sameText decimal lastDigits digitCountWithin before insert arranged sortRow namedSort variableRow functionRow memberRow shape sortShape _>>=_ unless readSort normal arrangedValues text hex hexDigit read command chain tests key readChain readTests readParts readReply lastVariable lastFunction rendered listing
+unfolding joined find at sameText decimal lastDigits digitCountWithin before insert arranged sortRow namedSort variableRow functionRow memberRow shape sortShape _>>=_ unless readSort normal arrangedValues text hex hexDigit readWith command chain tests key readChain readTests readParts readReply lastVariable lastFunction rendered listing
 sample = refl
 
 -- a later definition replaces an earlier one, and what is skipped behind it does not
 later-stays : listed (readModel tables (of (define 1 ∷ define 2 ∷ turned))) ≡ ok (bytes "vars=1\nfuns=0\nvar=x\nsort=2\nvalue=some(bv8:02)\n")
-unfolding joined find at sameText decimal lastDigits digitCountWithin before insert arranged sortRow namedSort variableRow functionRow memberRow shape sortShape _>>=_ unless readSort normal arrangedValues text hex hexDigit read command chain tests key readChain readTests readParts readReply lastVariable lastFunction rendered listing
+unfolding joined find at sameText decimal lastDigits digitCountWithin before insert arranged sortRow namedSort variableRow functionRow memberRow shape sortShape _>>=_ unless readSort normal arrangedValues text hex hexDigit readWith command chain tests key readChain readTests readParts readReply lastVariable lastFunction rendered listing
 later-stays = refl
 
 -- the second command's fault is found, though the first one is right
 later-checked : listed (readModel tables (of (define 1 ∷ of (word "define-fun" ∷ word "x" ∷ []) ∷ []))) ≡ refused UnexpectedModel
-unfolding joined find at sameText decimal lastDigits digitCountWithin before insert arranged sortRow namedSort variableRow functionRow memberRow shape sortShape _>>=_ unless readSort normal arrangedValues text hex hexDigit read command chain tests key readChain readTests readParts readReply lastVariable lastFunction rendered listing
+unfolding joined find at sameText decimal lastDigits digitCountWithin before insert arranged sortRow namedSort variableRow functionRow memberRow shape sortShape _>>=_ unless readSort normal arrangedValues text hex hexDigit readWith command chain tests key readChain readTests readParts readReply lastVariable lastFunction rendered listing
 later-checked = refl
 
 -- a default of the argument's sort, and an arm's value of it
@@ -78,11 +78,11 @@ abbrev body : Tree → Tree
 body b = of (of (word "define-fun" ∷ word "f" ∷ of (of (word "a" ∷ eight ∷ []) ∷ []) ∷ word "Bool" ∷ b ∷ []) ∷ [])
 
 wrong-default : listed (readModel tables (body (bitVec 8 1))) ≡ refused UnmatchedType
-unfolding joined find at sameText decimal lastDigits digitCountWithin before insert arranged sortRow namedSort variableRow functionRow memberRow shape sortShape _>>=_ unless readSort normal arrangedValues text hex hexDigit read command chain tests key readChain readTests readParts readReply lastVariable lastFunction rendered listing
+unfolding joined find at sameText decimal lastDigits digitCountWithin before insert arranged sortRow namedSort variableRow functionRow memberRow shape sortShape _>>=_ unless readSort normal arrangedValues text hex hexDigit readWith command chain tests key readChain readTests readParts readReply lastVariable lastFunction rendered listing
 wrong-default = refl
 
 wrong-value : listed (readModel tables (body (of (word "ite" ∷ of (word "=" ∷ word "a" ∷ bitVec 8 1 ∷ []) ∷ bitVec 8 1 ∷ word "true" ∷ [])))) ≡ refused UnmatchedType
-unfolding joined find at sameText decimal lastDigits digitCountWithin before insert arranged sortRow namedSort variableRow functionRow memberRow shape sortShape _>>=_ unless readSort normal arrangedValues text hex hexDigit read command chain tests key readChain readTests readParts readReply lastVariable lastFunction rendered listing
+unfolding joined find at sameText decimal lastDigits digitCountWithin before insert arranged sortRow namedSort variableRow functionRow memberRow shape sortShape _>>=_ unless readSort normal arrangedValues text hex hexDigit readWith command chain tests key readChain readTests readParts readReply lastVariable lastFunction rendered listing
 wrong-value = refl
 
 -- `or` where the argument is a bool and the result is none
@@ -90,5 +90,5 @@ wrong-or :
     readModel (record { sorts = bool ∷ bits 8 ∷ []; variables = []; functions = record { name = bytes "f"; argument = 0; result = 1 } ∷ []; members = [] })
     (of (of (word "define-fun" ∷ word "f" ∷ of (of (word "a" ∷ word "Bool" ∷ []) ∷ []) ∷ eight ∷ of (word "or" ∷ []) ∷ []) ∷ []))
     ≡ refused UnmatchedType
-unfolding joined find at sameText decimal lastDigits digitCountWithin before insert arranged sortRow namedSort variableRow functionRow memberRow shape sortShape _>>=_ unless readSort normal arrangedValues text hex hexDigit read command chain tests key readChain readTests readParts readReply lastVariable lastFunction rendered listing
+unfolding joined find at sameText decimal lastDigits digitCountWithin before insert arranged sortRow namedSort variableRow functionRow memberRow shape sortShape _>>=_ unless readSort normal arrangedValues text hex hexDigit readWith command chain tests key readChain readTests readParts readReply lastVariable lastFunction rendered listing
 wrong-or = refl

@@ -77,7 +77,7 @@ module _ (T : Tables) (a : ℕ) (e : Option ℕ) (k : Lit) where
   Reads s = appLit T (λ t. readSort T a t) (λ x u. read T a x u) e s ≡ ok k
 
   pub app-reads : (us : Trees) → read T (suc a) e (app us) ≡ ok k → Reads (shape us)
-  unfolding read
+  unfolding readWith
   app-reads us m = m
 
   pub as-none : (t : Tree) → Reads (asNone t) → vNone ≡ k .value

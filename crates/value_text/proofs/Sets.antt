@@ -152,7 +152,7 @@ module _ (sorts members names ws ts : List ℕ) (i : ℕ) (found : Found) (at : 
 
   module _ (below : ℕ) (left right : ℕ) (f : found ≡ Found.Union left right) where
     pub members-nested : (a : List ℕ) (place : ℕ) → below ≡ 0 → WritesMembers sorts members names ws ts i below a a place place
-    unfolding read
+    unfolding readWith
     members-nested a place z = by-arm below a a place place (λ l g us e k w m vs q row hs.
         let x = subst (λ (y : Found). Shows ws ts y (shape us)) f w in
         let n = as-union (tablesOf l) below e k (x .0) (x .1) (subst (λ (y : Shape). Reads (tablesOf l) below e k y) (x .2) m) in

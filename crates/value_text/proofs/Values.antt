@@ -66,7 +66,7 @@ module _ (sorts members names ws ts : List ℕ) (i : ℕ) (n : Node) (there : n 
   by-node o x e f l g t s below y k m row hs = f l g t s (subst (λ (z : Node). Tells ws ts z t) (sym there ∙ e) (tells ws ts i t s)) below y k m row hs
 
   pub node-bits : (r w low high : ℕ) → n ≡ Node.BitVec w low high → Offers a b 0 (text (vBits w ((low + high * 2 ^ 64) % 2 ^ w))) r → OpensValue sorts members names ws ts i a b (Opened.Whole r)
-  unfolding read normal
+  unfolding readWith normal
   node-bits r w low high e f = by-node (Opened.Whole r) (Node.BitVec w low high) e (λ l g t s d below y k m row hs.
       let q = went _ _ k (subst (λ (x : Tree). read (tablesOf l) (suc below) y x ≡ ok k) (d .1) m) in
       let z : low + high * 2 ^ 64 ≡ d .0 = whole (d .0) low high (d .2) (d .3) in
@@ -77,14 +77,14 @@ module _ (sorts members names ws ts : List ℕ) (i : ℕ) (n : Node) (there : n 
       whole n low high p q = omega arith
 
   pub node-string : (r size offset : ℕ) → n ≡ Node.String size offset → Offers a b 0 (text (vString (textAt ts offset size))) r → OpensValue sorts members names ws ts i a b (Opened.Whole r)
-  unfolding read normal
+  unfolding readWith normal
   node-string r size offset e f = by-node (Opened.Whole r) (Node.String size offset) e (λ l g t s d below y k m row hs.
       let q = went _ _ k (subst (λ (x : Tree). read (tablesOf l) (suc below) y x ≡ ok k) (d .1) m) in
       let v : vString (d .0) ≡ k .value = ap (λ (x : Lit). x .value) (ok-same (q .next)) in
       writes-as (vString (textAt ts offset size)) (k .value) (ap vString (d .2) ∙ v) a b r (writes-plain (vString (textAt ts offset size)) refl f))
 
   pub node-word : (r size offset : ℕ) → n ≡ Node.Symbol size offset → WordText members names (textAt ts offset size) a b r → OpensValue sorts members names ws ts i a b (Opened.Whole r)
-  unfolding read
+  unfolding readWith
   node-word r size offset e f = by-node (Opened.Whole r) (Node.Symbol size offset) e (λ l g t s d below y k m row hs.
       let m′ = subst (λ (x : Tree). read (tablesOf l) (suc below) y x ≡ ok k) (d .1) m in
       let o = subst (λ (x : List ℕ). WordText members names x a b r) (d .2) f l (g .members-are) (g .names-are) k m′ in
@@ -96,7 +96,7 @@ module _ (sorts members names ws ts : List ℕ) (i : ℕ) (n : Node) (there : n 
 
   -- a numeral is no literal
   pub node-other : (o : Opened) → OneOf (1 ∷ 5 ∷ []) (tagOf NodeType.the-type n) → OpensValue sorts members names ws ts i a b o
-  unfolding read
+  unfolding readWith
   node-other o h = by-node o n refl (λ l g t s d below y k m row hs. go n h t d (λ j e. refuses (subst (λ (x : Tree). read (tablesOf l) (suc below) y x ≡ ok k) e m)))
     where
       go : {R : Type 0} (n : Node) → OneOf (1 ∷ 5 ∷ []) (tagOf NodeType.the-type n) → (t : Tree) → Tells ws ts n t → ((j : ℕ) → t ≡ numeral j → R) → R
@@ -110,7 +110,7 @@ module _ (sorts members names ws ts : List ℕ) (i : ℕ) (n : Node) (there : n 
 -- the value, once it was opened
 module _ (sorts members names ws ts : List ℕ) (i allow : ℕ) where
   pub value-nested : (a b : List ℕ) (r : ℕ) → allow ≡ 0 → WritesValue sorts members names ws ts i allow a b r
-  unfolding read
+  unfolding readWith
   value-nested a b r z l g t s e k m = refuses (subst (λ (j : ℕ). read (tablesOf l) j e t ≡ ok k) z m)
 
   module _ (nonzero : allow ≡ 0 → ⊥) (a b : List ℕ) (o : Opened) (opened : OpensValue sorts members names ws ts i a b o) where

@@ -1,5 +1,6 @@
 pub mod Alls
 pub mod Holds
+pub mod Operators
 pub mod Decisions
 pub mod Bytes
 pub mod Digits

@@ -10,12 +10,12 @@ use Rattle.refusals.specs.declared.Refusal.{Refusal}
 use Rattle.refusals.specs.declared.Refusal.the-variants.{UnmatchedFieldType, UnmatchedRecordType}
 use Rattle.arena.specs.Tree.{Tree, Trees, bitVec as bits, numeral, string as quoted, symbol, app, nil, cons}
 use Rattle.tables.specs.Sort.{Sort, bool, string, ext, bitVec, optionOf, setOf, entityOf, recordOf, Tables}
-use Rattle.shapes.specs.Shape.{Shape, operator, asNone, asSome, someOf, asEmpty, singleton, union, extension, indexed, made, other, shape}
+use Rattle.shapes.specs.Shape.{Shape, unary, binary, ite, uncovered, asNone, asSome, someOf, asEmpty, singleton, union, extension, indexed, made, other, shape}
 use Rattle.shapes.specs.SortShape.{SortShape, word, widthOf, optionOf as optionShape, setOf as setShape, noSort, sortShape}
 use Rattle.sorts.specs.Result.{Result, ok, _>>=_, unless}
 use Rattle.sorts.specs.Sort.{sortOf, readSort}
 use Rattle.values.specs.Value.{Values}
-use Rattle.means.specs.Literal.{Lit, fieldsOf, madeRow, appLit, read}
+use Rattle.means.specs.Literal.{Lit, fieldsOf, madeRow, appLit, readWith}
 use Rattle.well_sorted.proofs.Results.{refuses, went}
 
 -- onwards, by another first step
@@ -58,18 +58,25 @@ module _ (T : Tables) (sort sort′ : Tree → Result ℕ) (more-sort : (t : Tre
     deeper-row row (some (recordOf name fs)) us l e =
         tested _ UnmatchedRecordType _ _ l e (λ k. onwards _ _ _ _ l k (λ vs. deeper-fields fs us vs) (λ vs h. h))
 
-    deeper-app : (e : Option ℕ) (s : Shape) (l : Lit) → appLit T sort lit e s ≡ ok l → appLit T sort′ lit′ e s ≡ ok l
-    deeper-app e operator l m = refuses m
-    deeper-app e (asNone t) l m = onwards _ _ _ _ l m (λ q. more-sort t q) (λ q k. k)
-    deeper-app e (asSome t v) l m = onwards _ _ _ _ l m (λ q. more-sort t q) (λ q k. onwards _ _ _ _ l k (λ j. more-lit _ v j) (λ j h. h))
-    deeper-app e (someOf v) l m = onwards _ _ _ _ l m (λ q k. k) (λ q k. onwards _ _ _ _ l k (λ j. more-lit _ v j) (λ j h. h))
-    deeper-app e (asEmpty t) l m = onwards _ _ _ _ l m (λ q. more-sort t q) (λ q k. k)
-    deeper-app e (singleton v) l m = onwards _ _ _ _ l m (λ q k. k) (λ q k. onwards _ _ _ _ l k (λ j. more-lit _ v j) (λ j h. h))
-    deeper-app e (union v w) l m = onwards _ _ _ _ l m (λ j. more-lit e v j) (λ j k. onwards _ _ _ _ l k (λ i. more-lit e w i) (λ i h. h))
-    deeper-app e (extension x n) l m = m
-    deeper-app e (indexed digits w) l m = m
-    deeper-app e (made name us) l m = onwards _ _ _ _ l m (λ row k. k) (λ row k. deeper-row row (at (T .sorts) row) us l k)
-    deeper-app e other l m = refuses m
+    deeper-app : (o : Bool) (e : Option ℕ) (s : Shape) (l : Lit) → appLit T sort lit o e s ≡ ok l → appLit T sort′ lit′ o e s ≡ ok l
+    deeper-app true e (unary op v) l m = onwards _ _ _ _ l m (λ j. more-lit none v j) (λ j h. h)
+    deeper-app false e (unary op v) l m = refuses m
+    deeper-app true e (binary op v w) l m = onwards _ _ _ _ l m (λ j. more-lit none v j) (λ j k. onwards _ _ _ _ l k (λ i. more-lit none w i) (λ i h. h))
+    deeper-app false e (binary op v w) l m = refuses m
+    deeper-app true e (ite c v w) l m =
+        onwards _ _ _ _ l m (λ j. more-lit none c j) (λ j k. onwards _ _ _ _ l k (λ i. more-lit e v i) (λ i k. onwards _ _ _ _ l k (λ i. more-lit e w i) (λ i h. h)))
+    deeper-app false e (ite c v w) l m = refuses m
+    deeper-app o e uncovered l m = refuses m
+    deeper-app o e (asNone t) l m = onwards _ _ _ _ l m (λ q. more-sort t q) (λ q k. k)
+    deeper-app o e (asSome t v) l m = onwards _ _ _ _ l m (λ q. more-sort t q) (λ q k. onwards _ _ _ _ l k (λ j. more-lit _ v j) (λ j h. h))
+    deeper-app o e (someOf v) l m = onwards _ _ _ _ l m (λ q k. k) (λ q k. onwards _ _ _ _ l k (λ j. more-lit _ v j) (λ j h. h))
+    deeper-app o e (asEmpty t) l m = onwards _ _ _ _ l m (λ q. more-sort t q) (λ q k. k)
+    deeper-app o e (singleton v) l m = onwards _ _ _ _ l m (λ q k. k) (λ q k. onwards _ _ _ _ l k (λ j. more-lit _ v j) (λ j h. h))
+    deeper-app o e (union v w) l m = onwards _ _ _ _ l m (λ j. more-lit e v j) (λ j k. onwards _ _ _ _ l k (λ i. more-lit e w i) (λ i h. h))
+    deeper-app o e (extension x n) l m = m
+    deeper-app o e (indexed digits w) l m = m
+    deeper-app o e (made name us) l m = onwards _ _ _ _ l m (λ row k. k) (λ row k. deeper-row row (at (T .sorts) row) us l k)
+    deeper-app o e other l m = refuses m
 
 module _ (T : Tables) where
   pub deeper-sort : (allow : ℕ) (t : Tree) (row : ℕ) → readSort T allow t ≡ ok row → readSort T (suc allow) t ≡ ok row
@@ -78,13 +85,13 @@ module _ (T : Tables) where
   deeper-sort (suc a) t row e =
       deeper-shape T (λ u. readSort T a u) (λ u. readSort T (suc a) u) (λ u q. deeper-sort a u q) (sortShape t) row e
 
-  pub deeper : (allow : ℕ) (expected : Option ℕ) (t : Tree) (l : Lit) → read T allow expected t ≡ ok l → read T (suc allow) expected t ≡ ok l
-  unfolding read
+  pub deeper : {o : Bool} (allow : ℕ) (expected : Option ℕ) (t : Tree) (l : Lit) → readWith T o allow expected t ≡ ok l → readWith T o (suc allow) expected t ≡ ok l
+  unfolding readWith
   deeper zero e t l m = refuses m
   deeper (suc a) e (bits w n) l m = m
   deeper (suc a) e (numeral n) l m = refuses m
   deeper (suc a) e (quoted s) l m = m
   deeper (suc a) e (symbol s) l m = m
-  deeper (suc a) e (app us) l m =
+  deeper {o} (suc a) e (app us) l m =
       deeper-app T (λ u. readSort T a u) (λ u. readSort T (suc a) u) (λ u q. deeper-sort a u q)
-      (λ x u. read T a x u) (λ x u. read T (suc a) x u) (λ x u k h. deeper a x u k h) e (shape us) l m
+      (λ x u. readWith T o a x u) (λ x u. readWith T o (suc a) x u) (λ x u k h. deeper a x u k h) o e (shape us) l m

@@ -1,7 +1,7 @@
 -- A literal that is read has the sort of its row, in lawful tables and where the strings are bytes.
 -- Assumes nothing.
 use mathlib.Core.Path.{_≡_, refl, sym, _∙_, subst}
-use mathlib.Core.Bool.{true, _&&_}
+use mathlib.Core.Bool.{Bool, true, false, _&&_}
 use mathlib.Core.List.{List}
 use mathlib.Core.Option.{Option, some}
 use Prim.Native.Nat.{ℕ, zero, suc, _%_, _^_, _≤_, _<_}
@@ -26,10 +26,10 @@ use Rattle.values.specs.Value.{Value, Values, vSet}
 use Rattle.values.specs.HasSort.{HasSort, FieldSorts, Loose}
 use Rattle.values.proofs.Digits.{InWord}
 use Rattle.values.proofs.Unions.{union-fits}
-use Rattle.means.specs.Literal.{Lit, unsigned, numbered, read}
+use Rattle.means.specs.Literal.{Lit, unsigned, numbered, readWith}
 use Rattle.well_sorted.specs.Octets.{Octets, OctetsAll}
 use Rattle.well_sorted.proofs.Results.{refuses, ok-same}
-use Rattle.well_sorted.proofs.Readings.{FieldReadings, f-nil, f-cons, Reading, r-bits, r-string, r-true, r-false, r-member, r-none, r-asSome, r-some, r-empty, r-singleton, r-union, r-extension, r-indexed, r-entity, r-record, reading}
+use Rattle.well_sorted.proofs.Readings.{FieldReadings, f-nil, f-cons, Reading, r-bits, r-string, r-true, r-false, r-member, r-none, r-asSome, r-some, r-empty, r-singleton, r-union, r-unary, r-binary, r-ite, r-extension, r-indexed, r-entity, r-record, reading}
 use Rattle.well_sorted.proofs.Insides.{members-fit}
 use Rattle.well_sorted.proofs.Members.{member-kept}
 
@@ -54,8 +54,8 @@ module _ (T : Tables) (rules : Lawful T) where
   pub width-most : (row w : ℕ) → at (T .sorts) row ≡ some (bitVec w) → w ≤ 128
   width-most row w k = leb-true w widthLimit (both-right (leb 1 w) (leb w widthLimit) (sort-right T rules row (bitVec w) k))
 
-  module _ (a : ℕ) (below : (e : Option ℕ) (t : Tree) (l : Lit) → Octets t → read T a e t ≡ ok l → HasSort (l .value) Loose T (l .row)) where
-    fields-fit : (fs : List ℕ) (us : Trees) (vs : Values) → FieldReadings T a fs us vs → OctetsAll us → FieldSorts vs Loose T fs
+  module _ {o : Bool} (a : ℕ) (below : (e : Option ℕ) (t : Tree) (l : Lit) → Octets t → readWith T o a e t ≡ ok l → HasSort (l .value) Loose T (l .row)) where
+    fields-fit : (fs : List ℕ) (us : Trees) (vs : Values) → FieldReadings o T a fs us vs → OctetsAll us → FieldSorts vs Loose T fs
     fields-fit _ _ _ f-nil p = refl
     fields-fit _ _ _ (f-cons {f = f} {fs = fs} {u = u} {us = us} {vs = vs} l e k h) p =
         record {
@@ -66,7 +66,7 @@ module _ (T : Tables) (rules : Lawful T) where
           tail = fields-fit fs us vs h (p .1);
         }
 
-    reading-fits : (e : Option ℕ) (t : Tree) (row : ℕ) (v : Value) → Reading T a e t row v → Octets t → HasSort v Loose T row
+    reading-fits : (e : Option ℕ) (t : Tree) (row : ℕ) (v : Value) → Reading o T a e t row v → Octets t → HasSort v Loose T row
     reading-fits e _ _ _ (r-bits {w = w} {n = n} k) p = (k, mod-lt n (pow-pos w))
     reading-fits e _ _ _ (r-string k) p = (k, p)
     reading-fits e _ _ _ (r-true k) p = k
@@ -82,6 +82,10 @@ module _ (T : Tables) (rules : Lawful T) where
         let right = subst (λ (u : Value). HasSort u Loose T (m .row)) y (below e w m (p .1 .1 .0) g) in
         let both = members-fit Loose T (l .row) (left .inner) (left .here) ws (subst (λ (r : ℕ). HasSort (vSet ws) Loose T r) (sym h) right) in
         (record { inner = left .inner; here = left .here; has = union-fits Loose T (left .inner) vs ws (left .has) both }, tt)
+    reading-fits e _ _ _ (r-unary op l h m f k) p = k
+    reading-fits e _ _ _ (r-binary op l m h x y f k) p = k
+    reading-fits e _ _ _ (r-ite {v = v} {w = w} {b = true} k l m h f g x y q) p = below e v l (p .1 .1 .0) g
+    reading-fits e _ _ _ (r-ite {v = v} {w = w} {b = false} k l m h f g x y q) p = subst (λ (r : ℕ). HasSort (m .value) Loose T r) (sym q) (below e w m (p .1 .1 .1 .0) x)
     reading-fits e _ _ _ (r-extension {n = n} k) p = (k, in-word n)
     reading-fits e _ _ _ (r-indexed {ds = ds} {w = w} {n = n} {row = row} h f k) p =
         (k, width-fits w n f (width-most row w k) (number-fits Radix.Decimal (unsigned ds) n h))
@@ -89,11 +93,11 @@ module _ (T : Tables) (rules : Lawful T) where
     reading-fits e _ _ _ (r-record {f = f} {us = us} {vs = vs} fs h k g) p =
         record { name = f; fields = fs; here = k; same = refl; has = fields-fit fs us vs g (p .1) }
 
-  fits : (allow : ℕ) (expected : Option ℕ) (t : Tree) (l : Lit) → Octets t → read T allow expected t ≡ ok l → HasSort (l .value) Loose T (l .row)
-  unfolding read
+  fits : {o : Bool} (allow : ℕ) (expected : Option ℕ) (t : Tree) (l : Lit) → Octets t → readWith T o allow expected t ≡ ok l → HasSort (l .value) Loose T (l .row)
+  unfolding readWith
   fits zero e t l p m = refuses m
   fits (suc a) e t l p m = reading-fits a (λ x u k q n. fits a x u k q n) e t (l .row) (l .value) (reading T a e t l m) p
 
-module _ (T : Tables) (rules : lawful T ≡ true) (allow : ℕ) (expected : Option ℕ) (t : Tree) (l : Lit) where
-  pub read-fits : Octets t → read T allow expected t ≡ ok l → HasSort (l .value) Loose T (l .row)
+module _ {o : Bool} (T : Tables) (rules : lawful T ≡ true) (allow : ℕ) (expected : Option ℕ) (t : Tree) (l : Lit) where
+  pub read-fits : Octets t → readWith T o allow expected t ≡ ok l → HasSort (l .value) Loose T (l .row)
   read-fits h e = fits T (lawful-parts T rules) allow expected t l h e

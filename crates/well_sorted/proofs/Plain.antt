@@ -19,13 +19,14 @@ use Rattle.words.specs.Run.{number, digits, someByte, parsed}
 use Rattle.arena.specs.Tree.{Tree, Trees, bitVec as bits, numeral, string as quoted, symbol, app, nil, cons}
 use Rattle.tables.specs.Find.{sortRow, namedSort, memberRow}
 use Rattle.tables.specs.Sort.{decimal, datetime, duration, Sort, bool, string, ext, bitVec, optionOf, setOf, entityOf, recordOf, Member, Tables}
-use Rattle.shapes.specs.Shape.{is, Shape, operator, asNone, asSome, someOf, asEmpty, singleton, union, extension, indexed, made, other, shape}
+use Rattle.shapes.specs.Shape.{is, Shape, unary, binary, ite, uncovered, asNone, asSome, someOf, asEmpty, singleton, union, extension, indexed, made, other, shape}
 use Rattle.shapes.specs.SortShape.{SortShape, word, widthOf, optionOf as optionShape, setOf as setShape, noSort, sortShape}
 use Rattle.sorts.specs.Result.{Result, ok, refused, _>>=_, unless, found}
 use Rattle.sorts.specs.Sort.{rowOf, sortWord, sortOf, readSort}
 use Rattle.values.specs.Value.{Value, vBool, vString, vBits}
 use Rattle.values.specs.Holds.{held}
-use Rattle.means.specs.Literal.{Lit, optionIn, setIn, unsigned, numbered, entityLit, sameCount, fieldsOf, unionLit, litOf, expectIn, someLit, widthLit, madeRow, appLit, memberLit, atRow, read}
+use Rattle.values.specs.Operators.{chosen}
+use Rattle.means.specs.Literal.{Lit, optionIn, setIn, unsigned, numbered, entityLit, sameCount, fieldsOf, unionLit, litOf, expectIn, someLit, widthLit, madeRow, appLit, memberLit, atRow, readWith, unaryOf, binaryOf, iteLit, boolLit}
 
 abbrev pub Plain : {A : Type 0} → Result A → Type 0
 Plain (ok a) = Unit {0}
@@ -107,6 +108,11 @@ union-plain l m =
     (plain-then (found SetUnionNonLiterals (held (l .value))) _ (plain-found SetUnionNonLiterals (held (l .value)) refl)
     (λ vs. plain-then (found SetUnionNonLiterals (held (m .value))) _ (plain-found SetUnionNonLiterals (held (m .value)) refl) (λ ws. tt)))
 
+ite-plain : (k l m : Lit) → Plain (iteLit k l m)
+ite-plain k l m =
+    plain-unless (eqb (l .row) (m .row)) UnmatchedType _ refl
+    (plain-then (found UnmatchedType (chosen (k .value) (l .value) (m .value))) _ (plain-found UnmatchedType (chosen (k .value) (l .value) (m .value)) refl) (λ v. tt))
+
 module _ (T : Tables) where
   lit-plain : (s : Sort) (v : Value) → Plain (litOf T s v)
   lit-plain s v = plain-then (rowOf T s) _ (row-plain T s) (λ row. tt)
@@ -115,6 +121,9 @@ module _ (T : Tables) where
   expect-plain inside none = tt
   expect-plain inside (some row) =
       plain-then (found UnknownLiteral (inside (at (T .sorts) row))) _ (plain-found UnknownLiteral (inside (at (T .sorts) row)) refl) (λ q. tt)
+
+  bool-plain : (o : Option Value) → Plain (boolLit T o)
+  bool-plain o = plain-then (found UnmatchedType o) _ (plain-found UnmatchedType o refl) (λ v. lit-plain bool v)
 
   width-plain : (n w : ℕ) → Plain (widthLit T n w)
   width-plain n w =
@@ -135,42 +144,49 @@ module _ (T : Tables) where
     made-row-plain row (some (recordOf name fs)) us =
         plain-unless (sameCount fs us) UnmatchedRecordType _ refl (plain-then (fieldsOf below fs us) _ (fields-plain below h fs us) (λ vs. tt))
 
-    app-plain : (e : Option ℕ) (s : Shape) → Plain (appLit T sortBelow below e s)
-    app-plain e operator = refl
-    app-plain e (asNone t) =
+    app-plain : (o : Bool) (e : Option ℕ) (s : Shape) → Plain (appLit T sortBelow below o e s)
+    app-plain true e (unary op v) = plain-then (below none v) _ (h none v) (λ l. bool-plain (unaryOf op l))
+    app-plain false e (unary op v) = refl
+    app-plain true e (binary op v w) = plain-then (below none v) _ (h none v) (λ l. plain-then (below none w) _ (h none w) (λ m. bool-plain (binaryOf op l m)))
+    app-plain false e (binary op v w) = refl
+    app-plain true e (ite c v w) =
+        plain-then (below none c) _ (h none c) (λ k. plain-then (below e v) _ (h e v) (λ l. plain-then (below e w) _ (h e w) (λ m. ite-plain k l m)))
+    app-plain false e (ite c v w) = refl
+    app-plain o e uncovered = refl
+    app-plain o e (asNone t) =
         plain-then (sortBelow t) _ (g t)
         (λ row. plain-then (found InvalidOptionType (optionIn (at (T .sorts) row))) _ (plain-found InvalidOptionType (optionIn (at (T .sorts) row)) refl) (λ q. tt))
-    app-plain e (asSome t v) =
+    app-plain o e (asSome t v) =
         plain-then (sortBelow t) _ (g t)
         (λ row. plain-then (below (optionIn (at (T .sorts) row)) v) _ (h (optionIn (at (T .sorts) row)) v)
         (λ l. plain-then (someLit T l) _ (lit-plain (optionOf (l .row)) _) (λ m. plain-unless (eqb (m .row) row) UnmatchedType _ refl tt)))
-    app-plain e (someOf v) =
+    app-plain o e (someOf v) =
         plain-then (expectIn T optionIn e) _ (expect-plain optionIn e) (λ q. plain-then (below q v) _ (h q v) (λ l. lit-plain (optionOf (l .row)) _))
-    app-plain e (asEmpty t) =
+    app-plain o e (asEmpty t) =
         plain-then (sortBelow t) _ (g t)
         (λ row. plain-then (found InvalidSetType (setIn (at (T .sorts) row))) _ (plain-found InvalidSetType (setIn (at (T .sorts) row)) refl) (λ q. tt))
-    app-plain e (singleton v) =
+    app-plain o e (singleton v) =
         plain-then (expectIn T setIn e) _ (expect-plain setIn e) (λ q. plain-then (below q v) _ (h q v) (λ l. lit-plain (setOf (l .row)) _))
-    app-plain e (union v w) = plain-then (below e v) _ (h e v) (λ l. plain-then (below e w) _ (h e w) (λ m. union-plain l m))
-    app-plain e (extension x n) = lit-plain (ext x) _
-    app-plain e (indexed digits w) = plain-then (numbered (parsed Radix.Decimal (unsigned digits))) _ (numbered-plain Radix.Decimal (unsigned digits)) (λ n. width-plain n w)
-    app-plain e (made name us) =
+    app-plain o e (union v w) = plain-then (below e v) _ (h e v) (λ l. plain-then (below e w) _ (h e w) (λ m. union-plain l m))
+    app-plain o e (extension x n) = lit-plain (ext x) _
+    app-plain o e (indexed digits w) = plain-then (numbered (parsed Radix.Decimal (unsigned digits))) _ (numbered-plain Radix.Decimal (unsigned digits)) (λ n. width-plain n w)
+    app-plain o e (made name us) =
         plain-then (found UnknownLiteral (namedSort T name)) _ (plain-found UnknownLiteral (namedSort T name) refl) (λ row. made-row-plain row (at (T .sorts) row) us)
-    app-plain e other = refl
+    app-plain o e other = refl
 
   member-plain : (m : Option Member) → Plain (memberLit T m)
   member-plain none = refl
   member-plain (some m) = tt
 
-  pub read-plain : (allow : ℕ) (e : Option ℕ) (t : Tree) → Plain (read T allow e t)
-  unfolding read
-  read-plain zero e t = refl
-  read-plain (suc allow) e (bits w n) = lit-plain (bitVec w) (vBits w (n % 2 ^ w))
-  read-plain (suc allow) e (numeral n) = refl
-  read-plain (suc allow) e (quoted s) = lit-plain string (vString s)
-  read-plain (suc allow) e (symbol s) =
+  pub read-plain : (o : Bool) (allow : ℕ) (e : Option ℕ) (t : Tree) → Plain (readWith T o allow e t)
+  unfolding readWith
+  read-plain o zero e t = refl
+  read-plain o (suc allow) e (bits w n) = lit-plain (bitVec w) (vBits w (n % 2 ^ w))
+  read-plain o (suc allow) e (numeral n) = refl
+  read-plain o (suc allow) e (quoted s) = lit-plain string (vString s)
+  read-plain o (suc allow) e (symbol s) =
       plain-cond (is s "true") _ _ (lit-plain bool (vBool true))
       (plain-cond (is s "false") _ _ (lit-plain bool (vBool false))
       (member-plain (atRow T (T .members) (memberRow T s))))
-  read-plain (suc allow) e (app us) =
-      app-plain (λ t. readSort T allow t) (λ x u. read T allow x u) (λ t. sort-plain T allow t) (λ x u. read-plain allow x u) e (shape us)
+  read-plain o (suc allow) e (app us) =
+      app-plain (λ t. readSort T allow t) (λ x u. readWith T o allow x u) (λ t. sort-plain T allow t) (λ x u. read-plain o allow x u) o e (shape us)

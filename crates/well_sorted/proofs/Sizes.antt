@@ -1,7 +1,7 @@
 -- How long the text of a literal can be: 131,200 bytes a node, which holds a member's longest text, and two for each byte of the tree's.
 -- Assumes nothing.
 use mathlib.Core.Path.{_≡_, subst}
-use mathlib.Core.Bool.{true}
+use mathlib.Core.Bool.{Bool, true, false}
 use mathlib.Core.List.{List}
 use mathlib.Core.Option.{Option, some}
 use Prim.Native.Nat.{ℕ, zero, suc, _+_, _*_, _%_, _^_, _≤_, _<_}
@@ -20,10 +20,10 @@ use Rattle.sorts.specs.Result.{ok}
 use Rattle.values.specs.Value.{Value, Values, vExt, vBits, vSet, vEntity, vNil, vCons, union}
 use Rattle.values.specs.Text.{text}
 use Rattle.values.proofs.Lengths.{signed-most, size, size-union, length-true, length-false, length-string, length-ext, length-bits, length-none, length-some, length-set, length-entity, length-record}
-use Rattle.means.specs.Literal.{Lit, read}
+use Rattle.means.specs.Literal.{Lit, readWith}
 use Rattle.well_sorted.proofs.Results.{refuses}
 use Rattle.well_sorted.proofs.Views.{call2}
-use Rattle.well_sorted.proofs.Readings.{FieldReadings, f-nil, f-cons, Reading, r-bits, r-string, r-true, r-false, r-member, r-none, r-asSome, r-some, r-empty, r-singleton, r-union, r-extension, r-indexed, r-entity, r-record, reading}
+use Rattle.well_sorted.proofs.Readings.{FieldReadings, f-nil, f-cons, Reading, r-bits, r-string, r-true, r-false, r-member, r-none, r-asSome, r-some, r-empty, r-singleton, r-union, r-unary, r-binary, r-ite, r-extension, r-indexed, r-entity, r-record, reading}
 use Rattle.well_sorted.proofs.Members.{member-kept}
 use Rattle.well_sorted.proofs.Fits.{width-most}
 
@@ -51,12 +51,19 @@ room-second h v = let p = rooms-cons 131200 h (cons v nil) in let q = rooms-cons
 room-third : (h v w : Tree) → 131200 + room v + room w ≤ room (app (cons h (cons v (cons w nil))))
 room-third h v w = let p = rooms-cons 131200 h (cons v (cons w nil)) in let q = rooms-cons 131200 v (cons w nil) in let r = rooms-cons 131200 w nil in omega arith
 
+room-fourth : (h u v w : Tree) → 131200 + room v + room w ≤ room (app (cons h (cons u (cons v (cons w nil)))))
+room-fourth h u v w = let p = rooms-cons 131200 h (cons u (cons v (cons w nil))) in let q = rooms-cons 131200 u (cons v (cons w nil)) in let r = rooms-cons 131200 v (cons w nil) in let s = rooms-cons 131200 w nil in omega arith
+
 room-node : (t : Tree) → 131200 ≤ room t
 room-node (Tree.bitVec w n) = omega arith
 room-node (Tree.numeral n) = omega arith
 room-node (Tree.string s) = omega arith
 room-node (Tree.symbol s) = omega arith
 room-node (Tree.app us) = omega arith
+
+bool-short : (b : Bool) (t : Tree) → length (text (vBool b)) < room t
+bool-short true t = omega (arith, length-true, room-node t)
+bool-short false t = omega (arith, length-false, room-node t)
 
 bits-short : (w n : ℕ) → w ≤ 128 → length (text (vBits w n)) < 131200
 bits-short w n h = let k = count-most w in let e = length-bits w n in omega arith
@@ -76,8 +83,8 @@ union-short vs ws =
     omega arith
 
 module _ (T : Tables) (rules : Lawful T) where
-  module _ (a : ℕ) (below : (e : Option ℕ) (t : Tree) (l : Lit) → read T a e t ≡ ok l → length (text (l .value)) < room t) where
-    fields-short : (fs : List ℕ) (us : Trees) (vs : Values) → FieldReadings T a fs us vs → size vs ≤ rooms us
+  module _ {o : Bool} (a : ℕ) (below : (e : Option ℕ) (t : Tree) (l : Lit) → readWith T o a e t ≡ ok l → length (text (l .value)) < room t) where
+    fields-short : (fs : List ℕ) (us : Trees) (vs : Values) → FieldReadings o T a fs us vs → size vs ≤ rooms us
     fields-short _ _ _ f-nil = omega arith
     fields-short _ _ _ (f-cons {f = f} {fs = fs} {u = u} {us = us} {vs = vs} l e k h) =
         let p = below (some f) u l e in
@@ -85,11 +92,11 @@ module _ (T : Tables) (rules : Lawful T) where
         let r = rooms-cons 131200 u us in
         omega arith
 
-    reading-short : (e : Option ℕ) (t : Tree) (row : ℕ) (v : Value) → Reading T a e t row v → length (text v) < room t
+    reading-short : (e : Option ℕ) (t : Tree) (row : ℕ) (v : Value) → Reading o T a e t row v → length (text v) < room t
     reading-short e t _ _ (r-bits {w = w} {n = n} {row = row} k) = let h = bits-short w (n % 2 ^ w) (width-most T rules row w k) in omega (arith, h)
     reading-short e t _ _ (r-string {s = s} k) = let h = length-string s in omega arith
-    reading-short e t _ _ (r-true k) = omega (arith, length-true, room-node t)
-    reading-short e t _ _ (r-false k) = omega (arith, length-false, room-node t)
+    reading-short e t _ _ (r-true k) = bool-short true t
+    reading-short e t _ _ (r-false k) = bool-short false t
     reading-short e t _ _ (r-member i m h k) =
         let g = member-kept T m rules i k .short in
         omega (arith, g, entity-short (m .entity) (m .text), room-node t)
@@ -103,21 +110,25 @@ module _ (T : Tables) (rules : Lawful T) where
         let left = subst (λ (u : Value). length (text u) < room v) x (below e v l f) in
         let right = subst (λ (u : Value). length (text u) < room w) y (below e w m g) in
         omega (arith, union-short vs ws, left, right, room-third (symbol (bytes "set.union")) v w)
+    reading-short e t _ _ (r-unary {b = b} op l h m f k) = bool-short b t
+    reading-short e t _ _ (r-binary {b = b} op l m h x y f k) = bool-short b t
+    reading-short e t _ _ (r-ite {c = c} {v = v} {w = w} {b = true} k l m h f g x y q) = omega (arith, below e v l g, room-fourth (symbol (bytes "ite")) c v w)
+    reading-short e t _ _ (r-ite {c = c} {v = v} {w = w} {b = false} k l m h f g x y q) = omega (arith, below e w m x, room-fourth (symbol (bytes "ite")) c v w)
     reading-short e t _ _ (r-extension {x = x} {n = n} k) = omega (arith, ext-short x (signed 64 (n % 2 ^ 64)), room-node t)
     reading-short e t _ _ (r-indexed {w = w} {n = n} {row = row} h f k) = omega (arith, bits-short w n (width-most T rules row w k), room-node t)
     reading-short e t _ _ (r-entity {f = f} {s = s} {row = row} h k) = omega (arith, entity-short row s, room-second (symbol f) (quoted s))
     reading-short e t _ _ (r-record {f = f} {us = us} {row = row} {vs = vs} fs h k g) =
         omega (arith, length-record row vs, count-most row, fields-short fs us vs g, rooms-cons 131200 (symbol f) us)
 
-  short : (allow : ℕ) (expected : Option ℕ) (t : Tree) (l : Lit) → read T allow expected t ≡ ok l → length (text (l .value)) < room t
-  unfolding read
+  short : {o : Bool} (allow : ℕ) (expected : Option ℕ) (t : Tree) (l : Lit) → readWith T o allow expected t ≡ ok l → length (text (l .value)) < room t
+  unfolding readWith
   short zero e t l m = refuses m
   short (suc a) e t l m = reading-short a (λ x u k n. short a x u k n) e t (l .row) (l .value) (reading T a e t l m)
 
-module _ (T : Tables) (rules : lawful T ≡ true) (allow : ℕ) (expected : Option ℕ) (t : Tree) (l : Lit) where
-  pub read-short : read T allow expected t ≡ ok l → length (text (l .value)) < 131200 * nodes t + 2 * length (treeText t)
+module _ {o : Bool} (T : Tables) (rules : lawful T ≡ true) (allow : ℕ) (expected : Option ℕ) (t : Tree) (l : Lit) where
+  pub read-short : readWith T o allow expected t ≡ ok l → length (text (l .value)) < 131200 * nodes t + 2 * length (treeText t)
   read-short m = short T (lawful-parts T rules) allow expected t l m
 
   -- of a tree that an arena holds
-  pub read-small : nodes t ≤ mostNodes → length (treeText t) ≤ mostText → read T allow expected t ≡ ok l → length (text (l .value)) < 2 ^ 60
+  pub read-small : nodes t ≤ mostNodes → length (treeText t) ≤ mostText → readWith T o allow expected t ≡ ok l → length (text (l .value)) < 2 ^ 60
   read-small h k m = let s = read-short m in omega arith

@@ -12,7 +12,9 @@ use Rattle.ground.proofs.Tests.{by-test, both-left, both-right}
 use Rattle.arena.specs.Tree.{Tree, Trees, bitVec, numeral, string, symbol, app, nil, cons}
 use Rattle.arena.proofs.Texts.{same-equal}
 use Rattle.tables.specs.Sort.{Ext, decimal, datetime, duration}
-use Rattle.shapes.specs.Shape.{Shape, operator, asNone, asSome, someOf, asEmpty, singleton, union, extension, indexed, made, other, is, extOr, extShape, one, indexShape, wordShape, pairShape, two, applied, someShape, headed, shape}
+use Rattle.shapes.specs.declared.shape.BinaryOp.{BinaryOp}
+use Rattle.shapes.specs.declared.shape.UnaryOp.{UnaryOp}
+use Rattle.shapes.specs.Shape.{Shape, unary, binary, ite, uncovered, asNone, asSome, someOf, asEmpty, singleton, union, extension, indexed, made, other, is, extOr, extShape, one, indexShape, wordShape, pairShape, two, applied, someShape, headed, shape}
 use Rattle.shapes.specs.SortShape.{SortShape, word, widthOf, optionOf, setOf, noSort, sortOne, sortTwo, sortApplied, sortList, sortShape}
 
 abbrev pub extName : Ext → List ℕ
@@ -26,8 +28,24 @@ call1 f a = cons (symbol f) (cons a nil)
 abbrev pub call2 : List ℕ → Tree → Tree → Trees
 call2 f a b = cons (symbol f) (cons a (cons b nil))
 
+abbrev pub call3 : List ℕ → Tree → Tree → Tree → Trees
+call3 f a b c = cons (symbol f) (cons a (cons b (cons c nil)))
+
+abbrev pub unaryName : UnaryOp → List ℕ
+unaryName UnaryOp.Not = bytes "not"
+unaryName UnaryOp.Bvnego = bytes "bvnego"
+
+abbrev pub binaryName : BinaryOp → List ℕ
+binaryName BinaryOp.Or = bytes "or"
+binaryName BinaryOp.Equal = bytes "="
+binaryName BinaryOp.Bvsaddo = bytes "bvsaddo"
+binaryName BinaryOp.Bvsmulo = bytes "bvsmulo"
+
 pub data View : Trees → Shape → Type 0 where
-  v-operator : {ts : Trees} → View ts operator
+  v-unary : {op : UnaryOp} {v : Tree} → View (call1 (unaryName op) v) (unary op v)
+  v-binary : {op : BinaryOp} {v w : Tree} → View (call2 (binaryName op) v w) (binary op v w)
+  v-ite : {c v w : Tree} → View (call3 (bytes "ite") c v w) (ite c v w)
+  v-uncovered : {ts : Trees} → View ts uncovered
   v-asNone : {t : Tree} → View (call2 (bytes "as") (symbol (bytes "none")) t) (asNone t)
   v-asSome : {t v : Tree} → View (cons (app (call2 (bytes "as") (symbol (bytes "some")) t)) (cons v nil)) (asSome t v)
   v-someOf : {v : Tree} → View (call1 (bytes "some") v) (someOf v)
@@ -60,10 +78,11 @@ module _ (f : List ℕ) where
 
   view-one : (a : Tree) → View (call1 f a) (one f a)
   view-one a =
-      by-test (is f "not" || is f "bvnego") (λ h. rw h v-operator) (λ h. rw h
+      by-test (is f "not") (λ h. rw h (rw (same-equal f _ h) (v-unary {op = UnaryOp.Not}))) (λ h. rw h
+      (by-test (is f "bvnego") (λ h. rw h (rw (same-equal f _ h) (v-unary {op = UnaryOp.Bvnego}))) (λ h. rw h
       (by-test (is f "some") (λ h. rw h (rw (same-equal f _ h) v-someOf)) (λ h. rw h
       (by-test (is f "set.singleton") (λ h. rw h (rw (same-equal f _ h) v-singleton)) (λ h. rw h
-      (view-ext a))))))
+      (view-ext a))))))))
 
 view-digits : (g : List ℕ) (w : ℕ) → View (call2 (bytes "_") (symbol g) (numeral w)) (indexShape (bytes "_") g (numeral w))
 view-digits [] w = v-made
@@ -97,16 +116,19 @@ module _ (f : List ℕ) where
 
   view-two : (a b : Tree) → View (call2 f a b) (two f a b)
   view-two a b =
-      by-test (is f "or" || is f "=" || is f "bvsaddo" || is f "bvsmulo") (λ h. rw h v-operator) (λ h. rw h
+      by-test (is f "or") (λ h. rw h (rw (same-equal f _ h) (v-binary {op = BinaryOp.Or}))) (λ h. rw h
+      (by-test (is f "=") (λ h. rw h (rw (same-equal f _ h) (v-binary {op = BinaryOp.Equal}))) (λ h. rw h
+      (by-test (is f "bvsaddo") (λ h. rw h (rw (same-equal f _ h) (v-binary {op = BinaryOp.Bvsaddo}))) (λ h. rw h
+      (by-test (is f "bvsmulo") (λ h. rw h (rw (same-equal f _ h) (v-binary {op = BinaryOp.Bvsmulo}))) (λ h. rw h
       (by-test (is f "set.union") (λ h. rw h (rw (same-equal f _ h) v-union)) (λ h. rw h
-      (by-test (is f "V4" || is f "V6") (λ h. rw h v-operator) (λ h. rw h
-      (view-pair a b))))))
+      (by-test (is f "V4" || is f "V6") (λ h. rw h v-uncovered) (λ h. rw h
+      (view-pair a b))))))))))))
 
   view-applied : (us : Trees) → View (cons (symbol f) us) (applied f us)
   view-applied nil = v-made
   view-applied (cons a nil) = view-one f a
   view-applied (cons a (cons b nil)) = view-two a b
-  view-applied (cons a (cons b (cons c nil))) = by-test (is f "ite") (λ h. rw h v-operator) (λ h. rw h v-made)
+  view-applied (cons a (cons b (cons c nil))) = by-test (is f "ite") (λ h. rw h (rw (same-equal f _ h) v-ite)) (λ h. rw h v-made)
   view-applied (cons a (cons b (cons c (cons d us)))) = v-made
 
 view-some : (a b t v : Tree) → View (cons (app (cons a (cons b (cons t nil)))) (cons v nil)) (someShape a b t v)
