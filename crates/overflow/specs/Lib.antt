@@ -1,0 +1,2 @@
+pub mod Overflow
+pub mod Sign
