@@ -3,7 +3,7 @@
 use mathlib.Core.Path.{_≡_, refl, sym, ap, ap₂, _∙_, subst}
 use mathlib.Core.Bool.{Bool, true, false, not, _&&_, Bool·beq}
 use Prim.Native.Nat.{ℕ, zero, suc, _+_, _*_, _-_, _%_, _^_, _<_, _≤_}
-use native.Mathlib.Nat.{mod-lt, lt-of-lt-of-le, le-trans, le-of-lt}
+use native.Mathlib.Nat.{le-trans, lt-irrefl, lt-of-lt-of-le, mod-lt, mod-eq-of-lt}
 use native.Mathlib.Omega.{arith}
 use lib.Dec.{leb, ltb}
 use lib.IntN.{ℤ, pos, negsuc, negℤ, _+ℤ_, _-ℤ_, _*ℤ_}
@@ -91,3 +91,60 @@ module _ (w n s : ℕ) (h : w ≤ 128) (e : s ≡ w - 1) (p : Pair) (k : Fit p �
 
   pub told-negative : (q : ℕ) → q ≡ value p - 1 → r ≡ leb (2 ^ s) q → r ≡ tells w (signedBy true n)
   told-negative q f g = reach w true n h s e q (f ∙ ap (λ (x : ℕ). x - 1) (fit-value n p (sym k))) r g
+
+-- a size and a number that make up p
+left-over : (r v p : ℕ) → r + v ≡ p → v < p → negℤ (pos r) ≡ pos v -ℤ pos p
+left-over zero v p e h = absurd (omega arith)
+left-over (suc r) v p e h = let k : r ≡ p - v - 1 = omega arith in ap negsuc k ∙ sym (minus v p h)
+
+-- what a number under ones leaves of the whole
+taken-off : (r v p m x : ℕ) → r + x ≡ m → x ≡ v + (m - p) → v < p → p ≤ m → r + v ≡ p
+taken-off r v p m x e f h k = omega arith
+
+nonzero : (v x y : ℕ) → 0 < v → x ≡ v + y → 0 < x
+nonzero v x y h e = omega arith
+
+-- the lowest bits and the bit that holds their sign
+module _ (w n v s : ℕ) (low : v ≡ n % 2 ^ w) (bit : s ≡ w - 1) where
+  pub signed-natural : leb (2 ^ s) v ≡ false → pos v ≡ number w n
+  signed-natural t =
+      sym (signed-low w v (subst (λ (x : ℕ). v < 2 ^ x) bit (leb-false (2 ^ s) v t))) ∙ ap (signed w) low
+
+  module _ (t : leb (2 ^ s) v ≡ true) (fits : v < 2 ^ 128) where
+    half : 2 ^ (w - 1) ≤ v
+    half = subst (λ (x : ℕ). 2 ^ x ≤ v) bit (leb-true (2 ^ s) v t)
+
+    below : v < 2 ^ w
+    below = subst (λ (x : ℕ). x < 2 ^ w) (sym low) (mod-lt n (pow-pos w))
+
+    some-width : 0 < w
+    some-width =
+        by-order 0 w (λ h. h)
+        (λ h.
+        let e : w ≡ 0 = omega arith in
+        let a : 1 ≤ v = subst (λ (x : ℕ). 2 ^ (x - 1) ≤ v) e half in
+        let b : v < 1 = subst (λ (x : ℕ). v < 2 ^ x) e below in
+        absurd (omega arith))
+
+    no-more : w ≤ 128
+    no-more =
+        by-order (w - 1) 128 (λ h. omega arith)
+        (λ h. absurd (lt-irrefl v (lt-of-lt-of-le fits (le-trans (pow-mono h) half))))
+
+    under-ones : extended w v ≡ v + (2 ^ 128 - 2 ^ w)
+    under-ones =
+        let m : v % 2 ^ w ≡ v = mod-eq-of-lt below in
+        by-order w 128
+        (λ h. sym (extended-negative w v some-width h (ap (leb (2 ^ (w - 1))) m ∙ le-leb (2 ^ (w - 1)) v half)) ∙ ap (λ (x : ℕ). x + (2 ^ 128 - 2 ^ w)) m)
+        (λ h.
+        let k = no-more in
+        let e : 128 ≡ w = omega arith in
+        let z : v ≡ v + 0 = omega arith in
+        sym (extended-wide w v h) ∙ z ∙ ap (λ (x : ℕ). v + (2 ^ 128 - 2 ^ x)) e)
+
+    pub signed-negative : (p : Pair) (r : ℕ) → p ≡ pairOf (extended w v) → (0 < value p → r + value p ≡ 2 ^ 128) → negℤ (pos r) ≡ number w n
+    signed-negative p r e f =
+        let x : value p ≡ v + (2 ^ 128 - 2 ^ w) = ap value e ∙ value-pair (extended w v) ∙ under-ones in
+        let g : r + value p ≡ 2 ^ 128 = f (nonzero v (value p) (2 ^ 128 - 2 ^ w) (lt-of-lt-of-le (pow-pos (w - 1)) half) x) in
+        left-over r v (2 ^ w) (taken-off r v (2 ^ w) (2 ^ 128) (value p) g x below (pow-mono no-more)) below
+        ∙ sym (signed-high w v half) ∙ ap (signed w) low

@@ -1,3 +1,7 @@
+use mathlib.Core.Path.{sym, _∙_}
+use Rattle.words.specs.Pair.{value}
+use Rattle.words.proofs.Numbers.{value-fits}
+use Rattle.overflow.proofs.Signs.{signed-natural, signed-negative}
 use borrow.Author.Needs.{needs}
 use Rattle.overflow.proofs.sign.signed_of.Statement.{statement}
 use Rattle.overflow.proofs.sign.signed_of.Tie as tie
@@ -31,11 +35,11 @@ opposite-requires c κs = search needs
 
 -- src/sign.rt:34:9
 returns : tie.Need-returns
-returns c = ?
+returns c = signed-negative (c .before .before .before .before .before .before .args .width) (value (c .before .before .before .before .before .before .args .operand)) (value (c .before .before .before .before .before .low-bits .result)) (c .before .before .before .before .sign-bit .result) (c .before .before .before .before .before .low-bits .ensures) (c .before .before .before .before .sign-bit .ensures) (sym (c .before .before .before .reaches .ensures) ∙ c .before .before .if1 .taken) (value-fits (c .before .before .before .before .before .low-bits .result .low) (c .before .before .before .before .before .low-bits .result .high) (search needs) (search needs)) (c .before .sign-extend .result) (value (c .opposite .result)) (c .before .sign-extend .ensures) (c .opposite .ensures)
 
 -- src/sign.rt:29:1
 returns-2 : tie.Need-returns-2
-returns-2 c = ?
+returns-2 c = signed-natural (c .before .before .before .before .args .width) (value (c .before .before .before .before .args .operand)) (value (c .before .before .before .low-bits .result)) (c .before .before .sign-bit .result) (c .before .before .before .low-bits .ensures) (c .before .before .sign-bit .ensures) (sym (c .before .reaches .ensures) ∙ c .if1 .left)
 
 pub signed-of-spec : {M : Type 1} → statement M
 signed-of-spec =
