@@ -1,2 +1,3 @@
 pub mod Overflow
 pub mod Sign
+pub mod Examples

@@ -1,3 +1,6 @@
+use Rattle.words.specs.Pair.{value}
+use Rattle.overflow.proofs.Sizes.{fit-self}
+use Rattle.overflow.proofs.Results.{negation-told}
 use borrow.Author.Needs.{needs}
 use Rattle.overflow.proofs.bvnego.Statement.{statement}
 use Rattle.overflow.proofs.bvnego.Tie as tie
@@ -16,7 +19,7 @@ leaves-requires c κs = search needs
 
 -- src/lib.rt:16:1
 returns : tie.Need-returns
-returns c = ?
+returns c = negation-told (c .before .before .before .before .args .width) (value (c .before .before .before .before .args .operand)) (c .before .before .before .signed-of .result .negative) (value (c .before .before .before .signed-of .result .size)) (c .before .before .before .signed-of .ensures) (c .leaves .result) (c .leaves .ensures (value (c .before .before .before .signed-of .result .size)) (fit-self (c .before .before .before .signed-of .result .size) (search needs) (search needs)))
 
 pub bvnego-spec : {M : Type 1} → statement M
 bvnego-spec = tie.close (tie.spec signed-of-requires leaves-requires returns)
