@@ -8,7 +8,7 @@ use native.Mathlib.Omega.{arith}
 use lib.IntN.{ℤ, pos, negsuc, negℤ, negℤ-negℤ}
 use borrow.Author.Tests.{le-leb, leb-true}
 use Rattle.overflow.specs.Overflow.{overflows, number}
-use Rattle.overflow.proofs.Signs.{held, overflows-by}
+use Rattle.overflow.proofs.Signs.{overflows-by}
 use Rattle.overflow.proofs.Results.{within, held-inside}
 
 only-least : (w : ℕ) (z : ℤ) → overflows w z ≡ false → overflows w (negℤ z) ≡ true → z ≡ negℤ (pos (2 ^ (w - 1)))

@@ -1,26 +1,25 @@
 -- Whole numbers by sign and size: which leave the range, the number that the lowest bits are, and the three results.
 -- Assumes nothing.
-use mathlib.Core.Path.{_≡_, refl, sym, ap, ap₂, _∙_, subst}
-use mathlib.Core.Bool.{Bool, true, false, not, _&&_, Bool·beq}
-use Prim.Native.Nat.{ℕ, zero, suc, _+_, _*_, _-_, _%_, _^_, _<_, _≤_}
+use mathlib.Core.Path.{_≡_, sym, ap, ap₂, _∙_, subst}
+use mathlib.Core.Bool.{Bool, true, false, not, _&&_}
+use Prim.Native.Nat.{ℕ, zero, suc, _+_, _-_, _%_, _^_, _<_, _≤_}
 use native.Mathlib.Nat.{le-trans, lt-irrefl, lt-of-lt-of-le, mod-lt, mod-eq-of-lt}
 use native.Mathlib.Omega.{arith}
 use lib.Dec.{leb, ltb}
-use lib.IntN.{ℤ, pos, negsuc, negℤ, _+ℤ_, _-ℤ_, _*ℤ_}
+use lib.IntN.{ℤ, pos, negsuc, negℤ, _-ℤ_}
 use lib.Signed.{leZ, ltZ}
 use lib.Pow.{pow-pos, pow-lt, pow-mono}
 use borrow.Author.Tests.{lt-ltb, le-ltb, le-leb, lt-leb, leb-true, leb-false}
 use Rattle.ground.proofs.Tests.{by-order}
 use Rattle.words.specs.declared.pair.Pair.{Pair}
-use Rattle.words.specs.declared.pair.Grown.{Grown}
 use Rattle.words.specs.declared.pair.Grown.the-variants.{Fit, Over}
 use Rattle.words.specs.Pair.{value, pairOf, grown}
-use Rattle.words.specs.Extension.{signed, filled, extended}
-use Rattle.words.proofs.Numbers.{too-far, fit-value, value-pair, value-fits}
+use Rattle.words.specs.Extension.{signed, extended}
+use Rattle.words.proofs.Numbers.{too-far, fit-value, value-pair}
 use Rattle.words.proofs.Extends.{extended-wide, extended-negative}
 use Rattle.words.proofs.Signs.{minus, signed-low, signed-high}
 use Rattle.overflow.specs.Overflow.{overflows, tells, number}
-use Rattle.overflow.specs.Sign.{signedBy, Leaves}
+use Rattle.overflow.specs.Sign.{signedBy}
 
 -- a size as it is held to the limit: the negative numbers go one further
 abbrev pub held : Bool → ℕ → ℕ

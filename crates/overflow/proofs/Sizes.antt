@@ -6,7 +6,6 @@ use native.Mathlib.Nat.{mod-eq-of-lt, le-trans, le-add-right, lt-of-lt-of-le, ad
 use native.Mathlib.Omega.{arith}
 use lib.Pow.{pow-pos, pow-mono, mod-pow-add, mod-mod-pow}
 use Rattle.words.specs.declared.pair.Pair.{Pair}
-use Rattle.words.specs.declared.pair.Grown.{Grown}
 use Rattle.words.specs.declared.pair.Grown.the-variants.{Fit, Over}
 use Rattle.words.specs.Pair.{value, grown}
 use Rattle.words.proofs.Numbers.{value-fits, too-large, fitting, pair-is, pair-value, grown-fit, grown-over}

@@ -3,7 +3,7 @@ use mathlib.Core.Path.{_≡_, refl}
 use mathlib.Core.Bool.{Bool, true, false}
 use mathlib.Core.List.{List, [], _∷_}
 use Prim.Native.Nat.{ℕ, _-_, _^_}
-use lib.IntN.{ℤ, pos, negsuc, negℤ, _+ℤ_, _*ℤ_}
+use lib.IntN.{ℤ, negsuc, negℤ, _+ℤ_, _*ℤ_}
 use Rattle.words.specs.Extension.{signed}
 use Rattle.overflow.specs.Overflow.{tells, number}
 

@@ -9,17 +9,8 @@ use Rattle.overflow.proofs.bvnego.Lts as lts
 use Rattle.overflow.proofs.sign.leaves.Reads as leaves-reads
 use Rattle.overflow.proofs.sign.signed_of.Reads as signed-of-reads
 
--- src/lib.rt:19:9
-signed-of-requires : tie.Need-signed-of-requires
-signed-of-requires c κs = search needs
-
--- src/lib.rt:21:5
-leaves-requires : tie.Need-leaves-requires
-leaves-requires c κs = search needs
-
--- src/lib.rt:16:1
 returns : tie.Need-returns
-returns c = negation-told (c .before .before .before .before .args .width) (value (c .before .before .before .before .args .operand)) (c .before .before .before .signed-of .result .negative) (value (c .before .before .before .signed-of .result .size)) (c .before .before .before .signed-of .ensures) (c .leaves .result) (c .leaves .ensures (value (c .before .before .before .signed-of .result .size)) (fit-self (c .before .before .before .signed-of .result .size) (search needs) (search needs)))
+returns c = let a = c .before .before .before .before .args in negation-told (a .width) (value (a .operand)) (c .before .before .before .signed-of .result .negative) (value (c .before .before .before .signed-of .result .size)) (c .before .before .before .signed-of .ensures) (c .leaves .result) (c .leaves .ensures (value (c .before .before .before .signed-of .result .size)) (fit-self (c .before .before .before .signed-of .result .size) (search needs) (search needs)))
 
 pub bvnego-spec : {M : Type 1} → statement M
-bvnego-spec = tie.close (tie.spec signed-of-requires leaves-requires returns)
+bvnego-spec = tie.close (tie.spec (λ c κs. search needs) (λ c κs. search needs) returns)
