@@ -1,0 +1,5 @@
+pub mod Sizes
+pub mod Products
+pub mod Signs
+pub mod Results
+pub mod Least

@@ -1,0 +1,3 @@
+pub mod Overflow
+pub mod Sign
+pub mod Examples
