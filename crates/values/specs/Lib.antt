@@ -1,5 +1,6 @@
 pub mod Value
 pub mod Text
 pub mod Normal
+pub mod Plain
 pub mod HasSort
 pub mod Examples
