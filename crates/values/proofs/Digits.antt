@@ -139,8 +139,10 @@ wide (suc (suc (suc (suc w)))) =
     let e : (suc (suc (suc (suc w))) + 3) / 4 ≡ suc ((w + 3) / 4) = omega arith in
     rw (e, pow-suc 16 ((w + 3) / 4), pow-suc 2 (suc (suc (suc w))), pow-suc 2 (suc (suc w)), pow-suc 2 (suc w), pow-suc 2 w) (omega arith)
 
-pub bits-same : (w n m : ℕ) → n < 2 ^ w → m < 2 ^ w → hex (hexWidth w) n ≡ hex (hexWidth w) m → n ≡ m
-bits-same w n m p q e = hex-same (hexWidth w) n m (lt-of-lt-of-le p (wide w)) (lt-of-lt-of-le q (wide w)) e
+pub bits-same : (w u n m : ℕ) → w ≡ u → n < 2 ^ w → m < 2 ^ u → hex (hexWidth w) n ≡ hex (hexWidth u) m → n ≡ m
+bits-same w u n m h p q e =
+    let k = subst (λ (i : ℕ). (m < 2 ^ i) × (hex (hexWidth w) n ≡ hex (hexWidth i) m)) (sym h) (q, e) in
+    hex-same (hexWidth w) n m (lt-of-lt-of-le p (wide w)) (lt-of-lt-of-le (k .0) (wide w)) (k .1)
 
 -- decimal
 decimal-within : (n : ℕ) → all (within 48 57) (decimal n) ≡ true
