@@ -2,7 +2,7 @@
 -- Assumes nothing.
 use mathlib.Core.Path.{_≡_, refl, ap, ap₂, sym, _∙_, subst}
 use mathlib.Core.Bool.{Bool, true, false, cond, _||_, true≢false}
-use mathlib.Core.List.{List, [], _∷_, _++_, append-assoc, head-eq-of-cons-eq, tail-eq-of-cons-eq}
+use mathlib.Core.List.{List, [], _∷_, _++_, append-assoc, append-cancel-left, head-eq-of-cons-eq, tail-eq-of-cons-eq}
 use mathlib.Core.Logic.{_⊎_, inl, inr}
 use Prim.Native.Nat.{ℕ, _<_, _^_}
 use lib.Dec.{eqb}
@@ -19,14 +19,10 @@ use Rattle.values.specs.HasSort.{HasSort, HaveSort, FieldSorts}
 use Rattle.values.proofs.Bytes.{utf8-bytes}
 use Rattle.values.proofs.Digits.{inRun, Ends, run-of, split-run, bytes-digits, hexText-same, hex-digits, bits-same, decimal-digits, signed-run, signed-same}
 
-cut : (p a b : List ℕ) → p ++ a ≡ p ++ b → a ≡ b
-cut [] a b e = e
-cut (x ∷ p) a b e = cut p a b (tail-eq-of-cons-eq e)
-
 -- a mark, a number and one more byte, and what is behind them
 cut-led : (p : List ℕ) (x y c : ℕ) (s t a b : List ℕ) → inRun c ≡ false → p ++ (decimal x ++ (c ∷ s)) ++ a ≡ p ++ (decimal y ++ (c ∷ t)) ++ b → (decimal x ≡ decimal y) × (s ++ a ≡ t ++ b)
 cut-led p x y c s t a b h e =
-    let z = split-run (decimal x) (decimal y) _ _ (run-of _ (decimal-digits x)) (run-of _ (decimal-digits y)) h h (cut p _ _ (sym (led x s a) ∙ e ∙ led y t b)) in
+    let z = split-run (decimal x) (decimal y) _ _ (run-of _ (decimal-digits x)) (run-of _ (decimal-digits y)) h h (append-cancel-left p _ _ (sym (led x s a) ∙ e ∙ led y t b)) in
     (z .0, tail-eq-of-cons-eq (z .1))
   where
     led : (x : ℕ) (s a : List ℕ) → p ++ (decimal x ++ (c ∷ s)) ++ a ≡ p ++ (decimal x ++ (c ∷ (s ++ a)))
@@ -147,17 +143,17 @@ module _ (R : Value → Value → Type 0) (Rs : Values → Values → Type 0) (i
     unfolding text joined
 
     pub tell-by : (v w : Value) (a b : List ℕ) → R v w → Ends a → Ends b → text v ++ a ≡ text w ++ b → (v ≡ w) × (a ≡ b)
-    tell-by (vBool x) w a b h f g e = let l = led-truth (Found (vBool x) w a b) x a (found (vBool x) w a b h e) in (l .2, cut (truth x) a b (l .1))
+    tell-by (vBool x) w a b h f g e = let l = led-truth (Found (vBool x) w a b) x a (found (vBool x) w a b h e) in (l .2, append-cancel-left (truth x) a b (l .1))
     tell-by (vString s) w a b h f g e =
         let l = found (vString s) w a b h e in
         let d = is .strings s (l .0) (l .1 .0) in
-        let z = split-run (hexText s) (hexText (l .0)) a b (run-of _ (bytes-digits s (d .0))) (run-of _ (bytes-digits (l .0) (d .1))) f g (cut (bytes "s:") _ _ (l .1 .1)) in
+        let z = split-run (hexText s) (hexText (l .0)) a b (run-of _ (bytes-digits s (d .0))) (run-of _ (bytes-digits (l .0) (d .1))) f g (append-cancel-left (bytes "s:") _ _ (l .1 .1)) in
         (ap vString (hexText-same s (l .0) (z .0)) ∙ l .1 .2, z .1)
     tell-by (vExt x y) w a b h f g e =
         let l = led-number (Found (vExt x y) w a b) x (signedDecimal y) a (found (vExt x y) w a b h e) in
         let d = is .numbers x y (l .0) (l .1 .0) in
         let z = split-run (signedDecimal y) (signedDecimal (l .0)) a b (signed-run y) (signed-run (l .0)) f g
-        (cut (mark x) _ _ (sym (append-assoc (mark x) (signedDecimal y) a) ∙ l .1 .1 ∙ append-assoc (mark x) (signedDecimal (l .0)) b)) in
+        (append-cancel-left (mark x) _ _ (sym (append-assoc (mark x) (signedDecimal y) a) ∙ l .1 .1 ∙ append-assoc (mark x) (signedDecimal (l .0)) b)) in
         (ap (λ (i : ℤ). vExt x i) (signed-same y (l .0) (d .0) (d .1) (z .0)) ∙ l .1 .2, z .1)
     tell-by (vBits x n) w a b h f g e =
         let l = found (vBits x n) w a b h e in
@@ -165,16 +161,16 @@ module _ (R : Value → Value → Type 0) (Rs : Values → Values → Type 0) (i
         let d = is .bits x n (l .0) (l .1) (l .2 .0) (q .0) in
         let z = split-run (hex (hexWidth x) n) (hex (hexWidth (l .0)) (l .1)) a b (run-of _ (hex-digits (hexWidth x) n)) (run-of _ (hex-digits (hexWidth (l .0)) (l .1))) f g (q .1) in
         (ap₂ {C = Value} vBits (d .0) (bits-same x (l .0) n (l .1) (d .0) (d .1) (d .2) (z .0)) ∙ l .2 .2, z .1)
-    tell-by vNone w a b h f g e = let l = found vNone w a b h e in (l .2, cut (bytes "none") a b (l .1))
+    tell-by vNone w a b h f g e = let l = found vNone w a b h e in (l .2, append-cancel-left (bytes "none") a b (l .1))
     tell-by (vSome v) w a b h f g e =
         let l = found (vSome v) w a b h e in
         let z = tell-by v (l .0) (41 ∷ a) (41 ∷ b) (is .somes v (l .0) (l .1 .0)) refl refl
-        (sym (append-assoc (text v) (bytes ")") a) ∙ cut (bytes "some(") _ _ (l .1 .1) ∙ append-assoc (text (l .0)) (bytes ")") b) in
+        (sym (append-assoc (text v) (bytes ")") a) ∙ append-cancel-left (bytes "some(") _ _ (l .1 .1) ∙ append-assoc (text (l .0)) (bytes ")") b) in
         (ap vSome (z .0) ∙ l .1 .2, tail-eq-of-cons-eq (z .1))
     tell-by (vSet vs) w a b h f g e =
         let l = found (vSet vs) w a b h e in
         let z = tell-all vs (l .0) 125 a b (is .sets vs (l .0) (l .1 .0)) refl refl
-        (sym (append-assoc (line vs) (bytes "}") a) ∙ cut (bytes "{") _ _ (l .1 .1) ∙ append-assoc (line (l .0)) (bytes "}") b) in
+        (sym (append-assoc (line vs) (bytes "}") a) ∙ append-cancel-left (bytes "{") _ _ (l .1 .1) ∙ append-assoc (line (l .0)) (bytes "}") b) in
         (ap vSet (z .0) ∙ l .1 .2, z .1)
     tell-by (vEntity o s) w a b h f g e =
         let l = found (vEntity o s) w a b h e in
