@@ -1,13 +1,13 @@
--- What holds of every element: of parts, of a whole, and as a test.
+-- What holds of every element: of parts, of a whole, as a test, and of each that stands in the list.
 -- Assumes nothing.
-use mathlib.Core.Path.{_≡_, refl, ap, sym, _∙_}
+use mathlib.Core.Path.{_≡_, refl, ap, sym, _∙_, subst}
 use mathlib.Core.Bool.{Bool, true, _&&_}
-use mathlib.Core.List.{List, [], _∷_, _++_, map}
+use mathlib.Core.List.{List, [], _∷_, _++_, map, List·Memᴰ·head, List·Memᴰ·tail}
 use Prim.Native.Nat.{ℕ}
 use Rattle.ground.specs.Lists.{all}
 use Rattle.ground.proofs.Tests.{by-test}
 use Rattle.order.specs.Order.{before}
-use Rattle.order.specs.Every.{Every, none, also, Ascends, empty, first}
+use Rattle.order.specs.Every.{Every, none, also, Ascends, empty, first, Among}
 use Rattle.order.proofs.Befores.{never}
 
 module _ {A : Type 0} where
@@ -50,6 +50,15 @@ module _ {A : Type 0} where
   unfolding all
   every-all p [] none = refl
   every-all p (x ∷ xs) (also e es) = ap (λ (t : Bool). t && all p xs) e ∙ every-all p xs es
+
+  -- the same of each that stands in the list
+  pub every-among : (P : A → Type 0) (xs : List A) → Every P xs → (x : A) → Among x xs → P x
+  every-among P (y ∷ xs) (also p ps) x (List·Memᴰ·head e) = subst P (sym e) p
+  every-among P (y ∷ xs) (also p ps) x (List·Memᴰ·tail m) = every-among P xs ps x m
+
+  pub among-every : (P : A → Type 0) (xs : List A) → ((x : A) → Among x xs → P x) → Every P xs
+  among-every P [] f = none
+  among-every P (x ∷ xs) f = also (f x (List·Memᴰ·head refl)) (among-every P xs (λ y m. f y (List·Memᴰ·tail m)))
 
   module _ (key : A → List ℕ) where
     pub ascends-left : (xs ys : List A) → Ascends key (xs ++ ys) → Ascends key xs

@@ -4,3 +4,4 @@ pub mod Inserts
 pub mod Arranges
 pub mod Merges
 pub mod Unions
+pub mod Sames

@@ -12,10 +12,8 @@ use Rattle.ground.proofs.Tests.{both-left, both-right, both}
 use Rattle.utf8.specs.Rows.{Span, _to_, rows}
 use Rattle.utf8.specs.Octets.{Sequence, Concatenation, none, more, utf8}
 use Rattle.utf8.proofs.Concatenations.{utf8-means}
+use Rattle.values.specs.Plain.{isByte}
 use Rattle.values.proofs.Alls.{all-append}
-
-abbrev pub isByte : ℕ → Bool
-isByte b = ltb b 256
 
 -- each span ends at a byte
 abbrev spanned : List Span → Bool

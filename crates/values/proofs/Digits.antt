@@ -8,8 +8,7 @@ use native.Mathlib.Omega.{arith}
 use native.Mathlib.Nat.{pow-suc, lt-of-lt-of-le}
 use native.Mathlib.Bridge.{le-by-compare, IsLe}
 use lib.Dec.{ltb, eqb, lit≤, leb→le, ltb→lt}
-use lib.IntN.{ℤ, pos, negsuc, negℤ}
-use lib.Signed.{_≤ℤ_, _<ℤ_}
+use lib.IntN.{ℤ, pos, negsuc}
 use borrow.Author.Tests.{ltb-true, ltb-false}
 use Rattle.ground.specs.Lists.{all}
 use Rattle.ground.proofs.Tests.{by-test, both-left, both-right, both}
@@ -20,8 +19,10 @@ use Rattle.words.proofs.Worths.{inside}
 use Rattle.decimals.specs.Decimal.{lastDigits, digitCount, decimal, signedDecimal}
 use Rattle.decimals.proofs.Values.{decimal-number}
 use Rattle.values.specs.Text.{hexDigit, hex, hexText, hexWidth}
+pub use Rattle.values.specs.Plain.{InWord}
+use Rattle.values.specs.Plain.{isByte}
 use Rattle.values.proofs.Alls.{all-append, all-by}
-use Rattle.values.proofs.Bytes.{isByte, utf8-bytes}
+use Rattle.values.proofs.Bytes.{utf8-bytes}
 
 -- `0` to `9` and `a` to `f`
 abbrev pub isHexDigit : ℕ → Bool
@@ -88,7 +89,7 @@ digit-same a b e =
     (λ k. let z : 87 + a ≡ 87 + b = rw (h, k) at e in omega arith))
 
 -- two digits a byte
-bytes-digits : (s : List ℕ) → all isByte s ≡ true → all isHexDigit (hexText s) ≡ true
+pub bytes-digits : (s : List ℕ) → all isByte s ≡ true → all isHexDigit (hexText s) ≡ true
 unfolding hexText all
 bytes-digits [] p = refl
 bytes-digits (b ∷ bs) p =
@@ -138,8 +139,10 @@ wide (suc (suc (suc (suc w)))) =
     let e : (suc (suc (suc (suc w))) + 3) / 4 ≡ suc ((w + 3) / 4) = omega arith in
     rw (e, pow-suc 16 ((w + 3) / 4), pow-suc 2 (suc (suc (suc w))), pow-suc 2 (suc (suc w)), pow-suc 2 (suc w), pow-suc 2 w) (omega arith)
 
-pub bits-same : (w n m : ℕ) → n < 2 ^ w → m < 2 ^ w → hex (hexWidth w) n ≡ hex (hexWidth w) m → n ≡ m
-bits-same w n m p q e = hex-same (hexWidth w) n m (lt-of-lt-of-le p (wide w)) (lt-of-lt-of-le q (wide w)) e
+pub bits-same : (w u n m : ℕ) → w ≡ u → n < 2 ^ w → m < 2 ^ u → hex (hexWidth w) n ≡ hex (hexWidth u) m → n ≡ m
+bits-same w u n m h p q e =
+    let k = subst (λ (i : ℕ). (m < 2 ^ i) × (hex (hexWidth w) n ≡ hex (hexWidth i) m)) (sym h) (q, e) in
+    hex-same (hexWidth w) n m (lt-of-lt-of-le p (wide w)) (lt-of-lt-of-le (k .0) (wide w)) (k .1)
 
 -- decimal
 decimal-within : (n : ℕ) → all (within 48 57) (decimal n) ≡ true
@@ -163,15 +166,8 @@ no-minus : (n : ℕ) (s : List ℕ) → decimal n ≡ 45 ∷ s → ⊥
 unfolding all
 no-minus n s e = false≢true (subst (λ (d : List ℕ). all (within 48 57) d ≡ true) e (decimal-within n))
 
-decimal-same : (n m : ℕ) → n ≤ 2 ^ 63 → m ≤ 2 ^ 63 → decimal n ≡ decimal m → n ≡ m
-decimal-same n m p q e = sym (decimal-number n (lt-of-lt-of-le (small n p) (lit≤ tt))) ∙ ap (λ (d : List ℕ). number 10 d) e ∙ decimal-number m (lt-of-lt-of-le (small m q) (lit≤ tt))
-  where
-    small : (k : ℕ) → k ≤ 2 ^ 63 → k < 2 ^ 64
-    small k h = omega arith
-
--- a number of 64 bits with a sign
-abbrev pub InWord : ℤ → Type 0
-InWord z = (negℤ (pos (2 ^ 63)) ≤ℤ z) × (z <ℤ pos (2 ^ 63))
+pub decimal-same : (n m : ℕ) → n < 2 ^ 64 → m < 2 ^ 64 → decimal n ≡ decimal m → n ≡ m
+decimal-same n m p q e = sym (decimal-number n (lt-of-lt-of-le p (lit≤ tt))) ∙ ap (λ (d : List ℕ). number 10 d) e ∙ decimal-number m (lt-of-lt-of-le q (lit≤ tt))
 
 pub signed-same : (y z : ℤ) → InWord y → InWord z → signedDecimal y ≡ signedDecimal z → y ≡ z
 unfolding signedDecimal

@@ -6,9 +6,11 @@ pub mod Bytes
 pub mod Digits
 pub mod Forms
 pub mod Tells
+pub mod Apart
 pub mod Plains
 pub mod Lengths
 pub mod Normals
+pub mod Sets
 pub mod Unions
 pub mod Members
 pub mod Samples

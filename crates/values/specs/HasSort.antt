@@ -4,14 +4,13 @@ use mathlib.Core.Bool.{true}
 use mathlib.Core.List.{List, [], _∷_}
 use mathlib.Core.Option.{some}
 use Prim.Native.Nat.{ℕ, _<_, _^_}
-use lib.IntN.{pos, negℤ}
-use lib.Signed.{_≤ℤ_, _<ℤ_}
 use Rattle.ground.specs.Lists.{at}
 use Rattle.utf8.specs.Octets.{utf8}
 use Rattle.order.specs.Order.{before}
 use Rattle.tables.specs.Sort.{Sort, bool, string, ext, bitVec, optionOf, setOf, entityOf, recordOf, Tables}
 use Rattle.values.specs.Value.{Value, Values, vBool, vString, vExt, vBits, vNone, vSome, vSet, vEntity, vRecord, vNil, vCons}
 use Rattle.values.specs.Text.{text}
+use Rattle.values.specs.Plain.{InWord}
 
 -- each text before the next: in order, and no repeats
 abbrev pub Ascending : Values → Type 0
@@ -57,7 +56,7 @@ abbrev mutual
   pub HasSort : Value → (Values → Type 0) → Tables → ℕ → Type 0
   HasSort (vBool b) A T r = at (T .sorts) r ≡ some bool
   HasSort (vString s) A T r = (at (T .sorts) r ≡ some string) × (utf8 s ≡ true)
-  HasSort (vExt e z) A T r = (at (T .sorts) r ≡ some (ext e)) × ((negℤ (pos (2 ^ 63)) ≤ℤ z) × (z <ℤ pos (2 ^ 63)))
+  HasSort (vExt e z) A T r = (at (T .sorts) r ≡ some (ext e)) × InWord z
   HasSort (vBits w n) A T r = (at (T .sorts) r ≡ some (bitVec w)) × (n < 2 ^ w)
   HasSort vNone A T r = Of T optionOf r (λ q. Unit {0})
   HasSort (vSome v) A T r = Of T optionOf r (λ q. HasSort v A T q)

@@ -4,5 +4,6 @@ pub mod Equal
 pub mod Operators
 pub mod Text
 pub mod Normal
+pub mod Plain
 pub mod HasSort
 pub mod Examples
