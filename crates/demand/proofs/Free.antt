@@ -23,7 +23,7 @@ use Rattle.shapes.specs.SortShape.{SortShape, sortShape}
 use Rattle.sorts.specs.Result.{ok}
 use Rattle.sorts.specs.Sort.{sortWord, sortOf, readSort}
 use Rattle.values.specs.Value.{Value, Values}
-use Rattle.means.specs.Literal.{Lit, read}
+use Rattle.means.specs.Literal.{Lit, read, readWith}
 use Rattle.well_sorted.proofs.Results.{refuses, went, was-found}
 use Rattle.well_sorted.proofs.Finds.{IsNamed, named-is}
 use Rattle.well_sorted.proofs.Views.{extName, SortView, s-word, s-width, s-option, s-set, s-none, sort-view}
@@ -152,11 +152,11 @@ module _ (T : Tables) (x : List ℕ) (apart-name : apart T x ≡ true) where
   free-ext duration = free-word (bytes "Duration") refl
 
   module _ (a : ℕ) (below : (e : Option ℕ) (t : Tree) (l : Lit) → read T a e t ≡ ok l → mentions t x ≡ false) where
-    free-fields : (fs : List ℕ) (us : Trees) (vs : Values) → FieldReadings T a fs us vs → mentionsAny us x ≡ false
+    free-fields : (fs : List ℕ) (us : Trees) (vs : Values) → FieldReadings false T a fs us vs → mentionsAny us x ≡ false
     free-fields _ _ _ f-nil = free-nil
     free-fields _ _ _ (f-cons {f = f} {fs = fs} {u = u} {us = us} {vs = vs} l e k h) = free-cons u us (below (some f) u l e) (free-fields fs us vs h)
 
-    free-reading : (e : Option ℕ) (t : Tree) (row : ℕ) (v : Value) → Reading T a e t row v → mentions t x ≡ false
+    free-reading : (e : Option ℕ) (t : Tree) (row : ℕ) (v : Value) → Reading false T a e t row v → mentions t x ≡ false
     unfolding kept keptWords any sameText
     free-reading e _ _ _ (r-bits {w = w} {n = n} k) = free-bits w n
     free-reading e _ _ _ (r-string {s = s} k) = free-string s
@@ -179,4 +179,4 @@ module _ (T : Tables) (x : List ℕ) (apart-name : apart T x ≡ true) where
   pub free-read : (allow : ℕ) (e : Option ℕ) (t : Tree) (l : Lit) → read T allow e t ≡ ok l → mentions t x ≡ false
   unfolding readWith
   free-read zero e t l m = refuses m
-  free-read (suc a) e t l m = free-reading a (λ o u k h. free-read a o u k h) e t (l .row) (l .value) (reading T a e t l m)
+  free-read (suc a) e t l m = free-reading a (λ o u k h. free-read a o u k h) e t (l .row) (l .value) (reading T false a e t l m)

@@ -64,7 +64,7 @@ module _ (T : Tables) (rules : lawful T ≡ true) where
       own-kept f (both-left (ownName f) (leb (length fs) fieldLimit)
       (both-left (ownName f && leb (length fs) fieldLimit) (all (λ q. ltb q row) fs) (sort-right T (lawful-parts T rules) row (recordOf f fs) k)))
 
-  headless : (a : ℕ) (d : Option ℕ) (t : Tree) (row : ℕ) (v : Value) → Reading T a d t row v → Headless t
+  headless : (a : ℕ) (d : Option ℕ) (t : Tree) (row : ℕ) (v : Value) → Reading false T a d t row v → Headless t
   unfolding sameText
   headless a d _ _ _ (r-bits k) = tt
   headless a d _ _ _ (r-string k) = tt
@@ -97,4 +97,4 @@ module _ (T : Tables) (rules : lawful T ≡ true) where
     literal-means (string s) e l r = literal-is (string s) e l r
     literal-means (symbol s) e l r = rw (not-argument s (free-read T x apart-name levels e (symbol s) l r)) (literal-is (symbol s) e l r)
     literal-means (app us) e l r =
-        headless 1023 e (app us) (l .row) (l .value) (reading T 1023 e (app us) l r) _ e _ ∙ literal-is (app us) e l r
+        headless 1023 e (app us) (l .row) (l .value) (reading T false 1023 e (app us) l r) _ e _ ∙ literal-is (app us) e l r

@@ -27,7 +27,7 @@ use Rattle.sorts.specs.Sort.{readSort}
 use Rattle.values.specs.Normal.{normal}
 use Rattle.values.specs.Text.{text}
 use Rattle.values.specs.Value.{Value, vBool, vString, vEntity}
-use Rattle.means.specs.Literal.{read}
+use Rattle.means.specs.Literal.{readWith}
 use Rattle.well_sorted.specs.Octets.{Octets}
 use Rattle.commands.specs.Command.{command, chain, tests, key}
 use Rattle.model.specs.Model.{armOf, Table, tableOf, isVariable, isFunction, readBody, readChain, readTests, readParts, readReply, readModel}

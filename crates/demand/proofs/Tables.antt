@@ -44,7 +44,7 @@ key-octets x _ k t-right p = p .1 .0
 module _ (T : Tables) (rules : lawful T ≡ true) where
   -- a literal of the row that is asked for
   pub read-at : (e : Option ℕ) (t : Tree) (l : Lit) (row : ℕ) → Octets t → read T levels e t ≡ ok l → eqb (l .row) row ≡ true → HasSort (l .value) Loose T row
-  read-at e t l row p m q = subst (λ (r : ℕ). HasSort (l .value) Loose T r) (eqb-true _ _ q) (read-fits T rules levels e t l p m)
+  read-at e t l row p m q = subst (λ (r : ℕ). HasSort (l .value) Loose T r) (eqb-true _ _ q) (read-fits T false rules levels e t l p m)
 
   module _ (x : List ℕ) (argument result : ℕ) where
     key-at : (test k : Tree) (l : Lit) → Octets test → key x test ≡ some k → read T levels none k ≡ ok l → eqb (l .row) argument ≡ true → HasSort (l .value) Loose T argument

@@ -17,7 +17,7 @@ use Rattle.shapes.specs.Shape.{shape}
 use Rattle.sorts.specs.Result.{_>>=_, unless}
 use Rattle.values.specs.Normal.{normal}
 use Rattle.values.specs.Value.{Value, vBool, vBits}
-use Rattle.means.specs.Literal.{read}
+use Rattle.means.specs.Literal.{readWith}
 use Rattle.values.specs.Equal.{equal}
 use Rattle.demand.specs.Mention.{unbarred, mentions}
 use Rattle.demand.specs.Meaning.{meaning}

@@ -54,11 +54,11 @@ module _ (T : Tables) where
   module _ (x : List ℕ) (argument result : ℕ) where
     chain-plain : (c : Chain) → Plain (readChain T x argument result c)
     unfolding readChain
-    chain-plain (default t) = plain-then (read T levels (some result) t) _ (read-plain T levels (some result) t) (λ l. plain-unless (eqb (l .row) result) UnmatchedType _ refl tt)
+    chain-plain (default t) = plain-then (read T levels (some result) t) _ (read-plain T false levels (some result) t) (λ l. plain-unless (eqb (l .row) result) UnmatchedType _ refl tt)
     chain-plain (arm test t rest) =
         plain-then (found UnexpectedForm (key x test)) _ (plain-found UnexpectedForm (key x test) refl)
-        (λ k. plain-then (read T levels none k) _ (read-plain T levels none k)
-        (λ m. plain-then (read T levels (some result) t) _ (read-plain T levels (some result) t)
+        (λ k. plain-then (read T levels none k) _ (read-plain T false levels none k)
+        (λ m. plain-then (read T levels (some result) t) _ (read-plain T false levels (some result) t)
         (λ l. plain-unless (eqb (m .row) argument) UnmatchedType _ refl
         (plain-unless (eqb (l .row) result) UnmatchedType _ refl
         (plain-then (readChain T x argument result rest) _ (chain-plain rest) (λ table. tt))))))
@@ -68,7 +68,7 @@ module _ (T : Tables) where
     tests-plain nil = tt
     tests-plain (cons test us) =
         plain-then (found UnexpectedForm (key x test)) _ (plain-found UnexpectedForm (key x test) refl)
-        (λ k. plain-then (read T levels none k) _ (read-plain T levels none k)
+        (λ k. plain-then (read T levels none k) _ (read-plain T false levels none k)
         (λ m. plain-unless (eqb (m .row) argument) UnmatchedType _ refl
         (plain-then (readTests T x argument result us) _ (tests-plain us) (λ table. tt))))
 
@@ -77,7 +77,7 @@ module _ (T : Tables) where
     body-plain body (some us) = plain-unless (isBool (at (T .sorts) result)) UnmatchedType _ refl (tests-plain us)
 
   value-plain : (row : ℕ) (t : Tree) → Plain (valueAs T row t)
-  value-plain row t = plain-then (read T levels (some row) t) _ (read-plain T levels (some row) t) (λ l. plain-unless (eqb (l .row) row) UnmatchedType _ refl tt)
+  value-plain row t = plain-then (read T levels (some row) t) _ (read-plain T false levels (some row) t) (λ l. plain-unless (eqb (l .row) row) UnmatchedType _ refl tt)
 
   variable-plain : (v : Variable) (sort t : Tree) → Plain (variableValue T v sort t)
   variable-plain v sort t =

@@ -194,7 +194,7 @@ module _ (l : Lent) (ws ts : List ℕ) (rules : lawful (tablesOf l) ≡ true) wh
           lit = k .lit;
           reads = k .first;
           same = k .same;
-          fits = read-fits (tablesOf l) rules levels (k .expected) v (k .lit) p (k .first);
+          fits = read-fits (tablesOf l) false rules levels (k .expected) v (k .lit) p (k .first);
         }
 
     command-on : (c : Command) → command t ≡ c → (d : Definition) → readCommand (tablesOf l) c ≡ ok (d ∷ []) → Stands l ws ts d i (i + nodes t - lastOf c)

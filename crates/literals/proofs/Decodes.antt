@@ -11,7 +11,7 @@ use Rattle.literals.specs.declared.answer.Literal.{Literal}
 use Rattle.literals.specs.declared.form.Expected.{Expected}
 use Rattle.literals.specs.declared.form.Then.{Then}
 use Rattle.literals.specs.declared.plan.Plan.{Plan}
-use Rattle.means.specs.Literal.{Lit, read}
+use Rattle.means.specs.Literal.{Lit, read, readWith}
 use Rattle.literals.specs.Answer.{answer}
 use Rattle.literals.specs.Parts.{expectedOf, Finishes, UnionOf}
 use Rattle.literals.specs.Plan.{Means, Given, PlansAt, DecodesAt, FieldsAt}

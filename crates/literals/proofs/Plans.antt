@@ -36,7 +36,7 @@ use Rattle.literals.specs.declared.form.Form.{Form}
 use Rattle.literals.specs.declared.form.Inside.{Inside}
 use Rattle.literals.specs.declared.form.Then.{Then}
 use Rattle.literals.specs.declared.plan.Plan.{Plan}
-use Rattle.means.specs.Literal.{Lit, read, optionIn, litOf, wordLit, appLit}
+use Rattle.means.specs.Literal.{Lit, read, optionIn, litOf, wordLit, appLit, readWith}
 use Rattle.literals.specs.Answer.{answer}
 use Rattle.literals.specs.Parts.{expectedOf, thenLit, InsideRow, Expects, BareOf, ExtensionOf, IndexedOf, BitsOf, StringOf, WordOf}
 use Rattle.literals.specs.Plan.{Means, thenOf, PlansInside, PlansAsSome, PlansMade, PlansApp, PlansAt}
@@ -100,7 +100,7 @@ module _ (sorts : List ℕ) (value : ℕ) (b : Sorted) where
 -- the arms
 module _ (sorts : List ℕ) (most : ℕ) (names ws ts : List ℕ) (i : ℕ) (expected : Expected) (below : ℕ) (f : Arm) (shown : ShapeAt ws ts i f) where
   abbrev Arms : Lent → Shape → Result Lit
-  Arms l s = appLit (tablesOf l) (λ t. readSort (tablesOf l) below t) (λ e u. read (tablesOf l) below e u) (expectedOf expected) s
+  Arms l s = appLit (tablesOf l) (λ t. readSort (tablesOf l) below t) (λ e u. read (tablesOf l) below e u) false (expectedOf expected) s
 
   by-arm : (p : Plan) → ((l : Lent) → l .sorts ≡ sorts → l .names ≡ names → length (l .fields) ≡ most → (s : Shape) → Shows ws ts f s → Means (tablesOf l) (l .fields) ws ts expected below p (Arms l s)) → PlansApp sorts most names ws ts i expected below p
   by-arm p k l s n m us z = k l s n m (shape us) (shown us z)
@@ -151,7 +151,7 @@ module _ (sorts : List ℕ) (most : ℕ) (names ws ts : List ℕ) (i : ℕ) (exp
       let w = as-arm (Arm.Extension kind low) e sh g in
       k l s ∙ sym (ap answer (ap (λ (x : Shape). Arms l x) (w .1) ∙ extended l kind low (w .0) (w .2))))
     where
-      extended : (l : Lent) (kind : Kind) (low n : ℕ) → low ≡ n % 2 ^ 64 → appLit (tablesOf l) (λ t. readSort (tablesOf l) below t) (λ e u. read (tablesOf l) below e u) (expectedOf expected) (Shape.extension (extOf kind) n) ≡ litOf (tablesOf l) (ext (extOf kind)) (vExt (extOf kind) (signed 64 low))
+      extended : (l : Lent) (kind : Kind) (low n : ℕ) → low ≡ n % 2 ^ 64 → appLit (tablesOf l) (λ t. readSort (tablesOf l) below t) (λ e u. read (tablesOf l) below e u) false (expectedOf expected) (Shape.extension (extOf kind) n) ≡ litOf (tablesOf l) (ext (extOf kind)) (vExt (extOf kind) (signed 64 low))
       extended l kind low n d = ap (λ (x : ℕ). litOf (tablesOf l) (ext (extOf kind)) (vExt (extOf kind) (signed 64 x))) (sym d)
 
   pub arm-indexed : (offset size low high : ℕ) → f ≡ Arm.Indexed offset size low high → (a : Literal) → IndexedOf sorts (textAt ts offset size) (low + high * 2 ^ 64) a → PlansApp sorts most names ws ts i expected below (Plan.Done a)

@@ -107,4 +107,4 @@ abbrev pub PlansApp : List ℕ → ℕ → List ℕ → List ℕ → List ℕ �
 PlansApp sorts most names ws ts i expected below r =
     (l : Lent) → l .sorts ≡ sorts → l .names ≡ names → length (l .fields) ≡ most → (us : Trees) → Standing (app us) ws ts i →
     Means (tablesOf l) (l .fields) ws ts expected below r
-    (appLit (tablesOf l) (λ t. readSort (tablesOf l) below t) (λ e u. read (tablesOf l) below e u) (expectedOf expected) (shape us))
+    (appLit (tablesOf l) (λ t. readSort (tablesOf l) below t) (λ e u. read (tablesOf l) below e u) false (expectedOf expected) (shape us))

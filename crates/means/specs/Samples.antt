@@ -15,7 +15,7 @@ use Rattle.shapes.specs.Shape.{shape}
 use Rattle.sorts.specs.Result.{Result, ok, refused, _>>=_, unless}
 use Rattle.values.specs.Value.{vBits}
 use Rattle.values.specs.Text.{hexWidth}
-use Rattle.means.specs.Literal.{Lit, lit, read}
+use Rattle.means.specs.Literal.{Lit, lit, read, readWith}
 
 abbrev pub list : List Tree → Trees
 list [] = nil

@@ -15,7 +15,7 @@ use Rattle.shapes.specs.Shape.{shape}
 use Rattle.sorts.specs.Result.{Result, ok, refused, _>>=_, unless}
 use Rattle.values.specs.Normal.{normal}
 use Rattle.values.specs.Text.{text}
-use Rattle.means.specs.Literal.{read}
+use Rattle.means.specs.Literal.{readWith}
 use Rattle.means.specs.Samples.{word, of}
 use Rattle.commands.specs.Command.{command}
 use Rattle.model.specs.Model.{Definition, readParts, readReply, readModel, readValues, lastVariable, lastFunction}

@@ -17,7 +17,7 @@ use Rattle.sorts.specs.Result.{Result, ok, refused, _>>=_, unless}
 use Rattle.sorts.specs.Sort.{readSort}
 use Rattle.values.specs.Normal.{normal, arrangedValues}
 use Rattle.values.specs.Text.{text, hex, hexDigit}
-use Rattle.means.specs.Literal.{read}
+use Rattle.means.specs.Literal.{readWith}
 use Rattle.means.specs.Samples.{word, of}
 use Rattle.commands.specs.Command.{command, chain, tests, key}
 use Rattle.model.specs.Model.{Definition, readChain, readTests, readParts, readReply, readModel, lastVariable, lastFunction}

@@ -22,7 +22,7 @@ use Rattle.sorts.specs.Result.{ok}
 use Rattle.sorts.specs.Sort.{readSort}
 use Rattle.values.specs.Value.{Value, Values, vBool, vString, vExt, vBits, vNone, vSome, vSet, vEntity, vRecord, vNil, vCons, union as both}
 use Rattle.values.specs.HasSort.{FieldSorts, Loose}
-use Rattle.means.specs.Literal.{Lit, unsigned, numbered, entityLit, fieldsOf, sameCount, madeRow, appLit, read}
+use Rattle.means.specs.Literal.{Lit, unsigned, numbered, entityLit, fieldsOf, sameCount, madeRow, appLit, read, readWith}
 use Rattle.values.proofs.Holds.{held-set}
 use Rattle.well_sorted.proofs.Results.{refuses, ok-same, went, passed, was-found}
 use Rattle.well_sorted.proofs.Readings.{Reading, r-bits, r-string, r-true, r-false, r-member, reading}
@@ -74,7 +74,7 @@ pub record Numbered (digits : List ℕ) (w : ℕ) (whole : Value) : Type 0 where
 
 module _ (T : Tables) (a : ℕ) (e : Option ℕ) (k : Lit) where
   abbrev pub Reads : Shape → Type 0
-  Reads s = appLit T (λ t. readSort T a t) (λ x u. read T a x u) e s ≡ ok k
+  Reads s = appLit T (λ t. readSort T a t) (λ x u. read T a x u) false e s ≡ ok k
 
   pub app-reads : (us : Trees) → read T (suc a) e (app us) ≡ ok k → Reads (shape us)
   unfolding readWith
@@ -244,9 +244,9 @@ module _ (T : Tables) (a : ℕ) (e : Option ℕ) (k : Lit) where
 
   -- what is read as a set is an application
   pub set-app : (t : Tree) (vs : Values) → read T (suc a) e t ≡ ok k → k .value ≡ vSet vs → (us : Trees) × (t ≡ app us)
-  set-app t vs m h = go t (k .row) (k .value) (reading T a e t k m) h
+  set-app t vs m h = go t (k .row) (k .value) (reading T false a e t k m) h
     where
-      go : (t : Tree) (row : ℕ) (v : Value) → Reading T a e t row v → v ≡ vSet vs → (us : Trees) × (t ≡ app us)
+      go : (t : Tree) (row : ℕ) (v : Value) → Reading false T a e t row v → v ≡ vSet vs → (us : Trees) × (t ≡ app us)
       go (bits w n) row v (r-bits q) h = no-set _ vs refl h
       go (quoted s) row v (r-string q) h = no-set _ vs refl h
       go (symbol s) row v (r-true q) h = no-set _ vs refl h

@@ -33,7 +33,7 @@ use Rattle.values.proofs.Members.{members-plain, members-arranged}
 use Rattle.values.proofs.Normals.{normals-fit}
 use Rattle.values.proofs.Unions.{texts-union}
 use Rattle.literals.specs.Answer.{capped}
-use Rattle.means.specs.Literal.{Lit, read}
+use Rattle.means.specs.Literal.{Lit, read, readWith}
 use Rattle.well_sorted.proofs.Results.{refuses}
 use Rattle.value_text.specs.Closed.{closed, Closes}
 use Rattle.value_text.specs.Laid.{Laid, Lays}

@@ -22,7 +22,7 @@ use Rattle.values.specs.Value.{Value, vString, vBits, vSet}
 use Rattle.values.specs.Text.{text}
 use Rattle.values.specs.Normal.{normal}
 use Rattle.values.specs.HasSort.{HasSort, Loose}
-use Rattle.means.specs.Literal.{Lit, read}
+use Rattle.means.specs.Literal.{Lit, read, readWith}
 use Rattle.well_sorted.proofs.Results.{refuses, ok-same, went}
 use Rattle.well_sorted.proofs.Readings.{Reading, r-true, r-false, r-member, reading}
 use Rattle.value_text.specs.declared.open.Opened.{Opened}
@@ -50,7 +50,7 @@ tells ws ts i (symbol q) s = subst (λ (x : Node). Tells ws ts x (symbol q)) (sy
 tells ws ts i (app us) s = subst (λ (x : Node). Tells ws ts x (app us)) (sym (s .there .here)) (us, refl)
 
 -- what a word is read as has no set in it
-word-plain : (T : Tables) (a : ℕ) (e : Option ℕ) (s : List ℕ) (row : ℕ) (v : Value) → Reading T a e (symbol s) row v → text v ≡ text (normal v)
+word-plain : (T : Tables) (a : ℕ) (e : Option ℕ) (s : List ℕ) (row : ℕ) (v : Value) → Reading false T a e (symbol s) row v → text v ≡ text (normal v)
 unfolding normal
 word-plain T a e s row v (r-true h) = refl
 word-plain T a e s row v (r-false h) = refl
@@ -88,7 +88,7 @@ module _ (sorts members names ws ts : List ℕ) (i : ℕ) (n : Node) (there : n 
   node-word r size offset e f = by-node (Opened.Whole r) (Node.Symbol size offset) e (λ l g t s d below y k m row hs.
       let m′ = subst (λ (x : Tree). read (tablesOf l) (suc below) y x ≡ ok k) (d .1) m in
       let o = subst (λ (x : List ℕ). WordText members names x a b r) (d .2) f l (g .members-are) (g .names-are) k m′ in
-      writes-plain (k .value) (word-plain (tablesOf l) below y (d .0) (k .row) (k .value) (reading (tablesOf l) below y (symbol (d .0)) k m′)) o)
+      writes-plain (k .value) (word-plain (tablesOf l) below y (d .0) (k .row) (k .value) (reading (tablesOf l) false below y (symbol (d .0)) k m′)) o)
 
   pub node-app : (o : Opened) (many next : ℕ) → n ≡ Node.App many next → OpensApp sorts names ws ts i a b o → OpensValue sorts members names ws ts i a b o
   node-app o many next e f = by-node o (Node.App many next) e (λ l g t s d below y k m row hs.

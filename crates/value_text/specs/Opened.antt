@@ -58,5 +58,5 @@ module _ (sorts names ws ts : List ℕ) where
   abbrev pub OpensMade : ℕ → ℕ → ℕ → ℕ → List ℕ → List ℕ → Opened → Type 0
   OpensMade offset size first many entry exit o =
       (l : Lent) → l .sorts ≡ sorts → l .names ≡ names → (f : List ℕ) (us : Trees) → Reads f ts offset size → StandingAll us ws ts first many → (below : ℕ) (expected : Option ℕ) (k : Lit) →
-      appLit (tablesOf l) (λ t. readSort (tablesOf l) below t) (λ e u. read (tablesOf l) below e u) expected (made f us) ≡ ok k →
+      appLit (tablesOf l) (λ t. readSort (tablesOf l) below t) (λ e u. read (tablesOf l) below e u) false expected (made f us) ≡ ok k →
       (row : ℕ) → HasSort (k .value) Loose (tablesOf l) row → Opens (tablesOf l) ws ts below (k .value) entry exit o

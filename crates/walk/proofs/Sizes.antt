@@ -91,7 +91,7 @@ push-size a t =
 
 module _ (T : Tables) (rules : lawful T ≡ true) where
   literal-short : (e : Option ℕ) (t : Tree) (l : Lit) → read T levels e t ≡ ok l → length (text (l .value)) + 100 ≤ room t
-  literal-short e t l m = let h = read-short T rules levels e t l m in let n = nodes-some t in omega arith
+  literal-short e t l m = let h = read-short T false rules levels e t l m in let n = nodes-some t in omega arith
 
   module _ (x : List ℕ) (argument result : ℕ) where
     key-short : (test k : Tree) (l : Lit) → key x test ≡ some k → read T levels none k ≡ ok l → length (text (l .value)) + 100 ≤ room test

@@ -85,13 +85,13 @@ module _ (T : Tables) where
   deeper-sort (suc a) t row e =
       deeper-shape T (λ u. readSort T a u) (λ u. readSort T (suc a) u) (λ u q. deeper-sort a u q) (sortShape t) row e
 
-  pub deeper : {o : Bool} (allow : ℕ) (expected : Option ℕ) (t : Tree) (l : Lit) → readWith T o allow expected t ≡ ok l → readWith T o (suc allow) expected t ≡ ok l
+  pub deeper : (o : Bool) (allow : ℕ) (expected : Option ℕ) (t : Tree) (l : Lit) → readWith T o allow expected t ≡ ok l → readWith T o (suc allow) expected t ≡ ok l
   unfolding readWith
-  deeper zero e t l m = refuses m
-  deeper (suc a) e (bits w n) l m = m
-  deeper (suc a) e (numeral n) l m = refuses m
-  deeper (suc a) e (quoted s) l m = m
-  deeper (suc a) e (symbol s) l m = m
-  deeper {o} (suc a) e (app us) l m =
+  deeper o zero e t l m = refuses m
+  deeper o (suc a) e (bits w n) l m = m
+  deeper o (suc a) e (numeral n) l m = refuses m
+  deeper o (suc a) e (quoted s) l m = m
+  deeper o (suc a) e (symbol s) l m = m
+  deeper o (suc a) e (app us) l m =
       deeper-app T (λ u. readSort T a u) (λ u. readSort T (suc a) u) (λ u q. deeper-sort a u q)
-      (λ x u. readWith T o a x u) (λ x u. readWith T o (suc a) x u) (λ x u k h. deeper a x u k h) o e (shape us) l m
+      (λ x u. readWith T o a x u) (λ x u. readWith T o (suc a) x u) (λ x u k h. deeper o a x u k h) o e (shape us) l m

@@ -54,7 +54,7 @@ module _ (T : Tables) (rules : Lawful T) where
   pub width-most : (row w : ℕ) → at (T .sorts) row ≡ some (bitVec w) → w ≤ 128
   width-most row w k = leb-true w widthLimit (both-right (leb 1 w) (leb w widthLimit) (sort-right T rules row (bitVec w) k))
 
-  module _ {o : Bool} (a : ℕ) (below : (e : Option ℕ) (t : Tree) (l : Lit) → Octets t → readWith T o a e t ≡ ok l → HasSort (l .value) Loose T (l .row)) where
+  module _ (o : Bool) (a : ℕ) (below : (e : Option ℕ) (t : Tree) (l : Lit) → Octets t → readWith T o a e t ≡ ok l → HasSort (l .value) Loose T (l .row)) where
     fields-fit : (fs : List ℕ) (us : Trees) (vs : Values) → FieldReadings o T a fs us vs → OctetsAll us → FieldSorts vs Loose T fs
     fields-fit _ _ _ f-nil p = refl
     fields-fit _ _ _ (f-cons {f = f} {fs = fs} {u = u} {us = us} {vs = vs} l e k h) p =
@@ -93,11 +93,11 @@ module _ (T : Tables) (rules : Lawful T) where
     reading-fits e _ _ _ (r-record {f = f} {us = us} {vs = vs} fs h k g) p =
         record { name = f; fields = fs; here = k; same = refl; has = fields-fit fs us vs g (p .1) }
 
-  fits : {o : Bool} (allow : ℕ) (expected : Option ℕ) (t : Tree) (l : Lit) → Octets t → readWith T o allow expected t ≡ ok l → HasSort (l .value) Loose T (l .row)
+  fits : (o : Bool) (allow : ℕ) (expected : Option ℕ) (t : Tree) (l : Lit) → Octets t → readWith T o allow expected t ≡ ok l → HasSort (l .value) Loose T (l .row)
   unfolding readWith
-  fits zero e t l p m = refuses m
-  fits (suc a) e t l p m = reading-fits a (λ x u k q n. fits a x u k q n) e t (l .row) (l .value) (reading T a e t l m) p
+  fits o zero e t l p m = refuses m
+  fits o (suc a) e t l p m = reading-fits o a (λ x u k q n. fits o a x u k q n) e t (l .row) (l .value) (reading T o a e t l m) p
 
-module _ {o : Bool} (T : Tables) (rules : lawful T ≡ true) (allow : ℕ) (expected : Option ℕ) (t : Tree) (l : Lit) where
+module _ (T : Tables) (o : Bool) (rules : lawful T ≡ true) (allow : ℕ) (expected : Option ℕ) (t : Tree) (l : Lit) where
   pub read-fits : Octets t → readWith T o allow expected t ≡ ok l → HasSort (l .value) Loose T (l .row)
-  read-fits h e = fits T (lawful-parts T rules) allow expected t l h e
+  read-fits h e = fits T (lawful-parts T rules) o allow expected t l h e

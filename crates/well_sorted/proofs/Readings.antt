@@ -100,7 +100,7 @@ by-worked false l m e f = refuses e
 narrow : (w n : ℕ) → (ltb w 128 && leb (2 ^ w) n) ≡ false → w < 128 → n < 2 ^ w
 narrow w n h k = leb-false (2 ^ w) n (rw (lt-ltb w 128 k) at h)
 
-module _ {o : Bool} (T : Tables) (a : ℕ) (e : Option ℕ) where
+module _ (T : Tables) (o : Bool) (a : ℕ) (e : Option ℕ) where
   -- what the arms reading
   abbrev Told : Tree → Lit → Type 0
   Told t l = Reading o T a e t (l .row) (l .value)
@@ -155,7 +155,7 @@ module _ {o : Bool} (T : Tables) (a : ℕ) (e : Option ℕ) where
       (f-cons (w .got) (w .first) (eqb-true _ _ (q .0)) (fields-told fs us (z .got) c (z .first)))
 
   abbrev Made : List ℕ → ℕ → Option Sort → Trees → Lit → Type 0
-  Made f row o us l = madeRow T (λ t. readSort T a t) (λ x u. readWith T o a x u) row o us ≡ ok l
+  Made f row s us l = madeRow T (λ t. readSort T a t) (λ x u. readWith T o a x u) row s us ≡ ok l
 
   made-told : (f : List ℕ) (row : ℕ) (us : Trees) (l : Lit) (s : Sort) → namedSort T f ≡ some row → at (T .sorts) row ≡ some s → IsNamed f s → Made f row (some s) us l →
       Told (app (cons (symbol f) us)) l
@@ -186,7 +186,7 @@ module _ {o : Bool} (T : Tables) (a : ℕ) (e : Option ℕ) where
       let p = passed _ UnmatchedType _ l (z .next) in
       let y = went _ _ l (p .1) in
       let b = chosen-one (w .got .value) (x .got .value) (z .got .value) (y .got) (was-found UnmatchedType _ _ (y .first)) in
-      subst (Told _) (ap (λ (v : Value). lit (x .got .row) v) (sym (b .2)) ∙ ok-same (y .next)) (r-ite (w .got) (x .got) (z .got) h (w .first) (x .first) (z .first) (b .1) (eqb-true _ _ (p .0))))
+      subst (Told _) (ap (λ (v : Value). lit (x .got .row) v) (b .2) ∙ ok-same (y .next)) (r-ite (w .got) (x .got) (z .got) h (w .first) (x .first) (z .first) (b .1) (eqb-true _ _ (p .0))))
   app-told _ _ v-uncovered l m = refuses m
   app-told _ _ v-asNone l m =
       let w = went _ _ l m in
@@ -203,7 +203,7 @@ module _ {o : Bool} (T : Tables) (a : ℕ) (e : Option ℕ) where
       let r : x .got ≡ w .got = ap (λ (k : Lit). k .row) (ok-same (x .next)) ∙ eqb-true _ _ (q .0) in
       let k = row-is T (x .got) (optionOf (z .got .row)) refl (x .first) in
       let k′ = subst (λ (j : ℕ). at (T .sorts) j ≡ some (optionOf (z .got .row))) r k in
-      subst (Told _) g (r-asSome (z .got) (w .first ∙ ap ok (sym r)) k (subst (λ (o : Option Sort). readWith T o a (optionIn o) v ≡ ok (z .got)) k′ (z .first)))
+      subst (Told _) g (r-asSome (z .got) (w .first ∙ ap ok (sym r)) k (subst (λ (s : Option Sort). readWith T o a (optionIn s) v ≡ ok (z .got)) k′ (z .first)))
   app-told _ _ v-someOf l m =
       let w = went _ _ l m in
       let z = went _ _ l (w .next) in
@@ -232,7 +232,7 @@ module _ {o : Bool} (T : Tables) (a : ℕ) (e : Option ℕ) where
       let w = went _ _ l m in
       let h = was-found UnknownLiteral (namedSort T f) (w .got) (w .first) in
       let k = named-is T (w .got) f h in
-      made-told f (w .got) us l (k .0) h (k .1) (k .2) (subst (λ (o : Option Sort). Made f (w .got) o us l) (k .1) (w .next))
+      made-told f (w .got) us l (k .0) h (k .1) (k .2) (subst (λ (s : Option Sort). Made f (w .got) s us l) (k .1) (w .next))
   app-told _ _ v-other l m = refuses m
 
   pub reading : (t : Tree) (l : Lit) → readWith T o (suc a) e t ≡ ok l → Reading o T a e t (l .row) (l .value)

@@ -17,7 +17,7 @@ use Rattle.tables.specs.Sort.{Ext, Tables}
 use Rattle.tables.specs.Rules.{lawful}
 use Rattle.tables.proofs.Lawful.{Lawful, lawful-parts}
 use Rattle.sorts.specs.Result.{ok}
-use Rattle.values.specs.Value.{Value, Values, vExt, vBits, vSet, vEntity, vNil, vCons, union}
+use Rattle.values.specs.Value.{Value, Values, vBool, vExt, vBits, vSet, vEntity, vNil, vCons, union}
 use Rattle.values.specs.Text.{text}
 use Rattle.values.proofs.Lengths.{signed-most, size, size-union, length-true, length-false, length-string, length-ext, length-bits, length-none, length-some, length-set, length-entity, length-record}
 use Rattle.means.specs.Literal.{Lit, readWith}
@@ -83,7 +83,7 @@ union-short vs ws =
     omega arith
 
 module _ (T : Tables) (rules : Lawful T) where
-  module _ {o : Bool} (a : ℕ) (below : (e : Option ℕ) (t : Tree) (l : Lit) → readWith T o a e t ≡ ok l → length (text (l .value)) < room t) where
+  module _ (o : Bool) (a : ℕ) (below : (e : Option ℕ) (t : Tree) (l : Lit) → readWith T o a e t ≡ ok l → length (text (l .value)) < room t) where
     fields-short : (fs : List ℕ) (us : Trees) (vs : Values) → FieldReadings o T a fs us vs → size vs ≤ rooms us
     fields-short _ _ _ f-nil = omega arith
     fields-short _ _ _ (f-cons {f = f} {fs = fs} {u = u} {us = us} {vs = vs} l e k h) =
@@ -120,14 +120,14 @@ module _ (T : Tables) (rules : Lawful T) where
     reading-short e t _ _ (r-record {f = f} {us = us} {row = row} {vs = vs} fs h k g) =
         omega (arith, length-record row vs, count-most row, fields-short fs us vs g, rooms-cons 131200 (symbol f) us)
 
-  short : {o : Bool} (allow : ℕ) (expected : Option ℕ) (t : Tree) (l : Lit) → readWith T o allow expected t ≡ ok l → length (text (l .value)) < room t
+  short : (o : Bool) (allow : ℕ) (expected : Option ℕ) (t : Tree) (l : Lit) → readWith T o allow expected t ≡ ok l → length (text (l .value)) < room t
   unfolding readWith
-  short zero e t l m = refuses m
-  short (suc a) e t l m = reading-short a (λ x u k n. short a x u k n) e t (l .row) (l .value) (reading T a e t l m)
+  short o zero e t l m = refuses m
+  short o (suc a) e t l m = reading-short o a (λ x u k n. short o a x u k n) e t (l .row) (l .value) (reading T o a e t l m)
 
-module _ {o : Bool} (T : Tables) (rules : lawful T ≡ true) (allow : ℕ) (expected : Option ℕ) (t : Tree) (l : Lit) where
+module _ (T : Tables) (o : Bool) (rules : lawful T ≡ true) (allow : ℕ) (expected : Option ℕ) (t : Tree) (l : Lit) where
   pub read-short : readWith T o allow expected t ≡ ok l → length (text (l .value)) < 131200 * nodes t + 2 * length (treeText t)
-  read-short m = short T (lawful-parts T rules) allow expected t l m
+  read-short m = short T (lawful-parts T rules) o allow expected t l m
 
   -- of a tree that an arena holds
   pub read-small : nodes t ≤ mostNodes → length (treeText t) ≤ mostText → readWith T o allow expected t ≡ ok l → length (text (l .value)) < 2 ^ 60
