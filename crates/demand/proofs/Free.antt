@@ -4,7 +4,7 @@ use mathlib.Core.Path.{_≡_, refl, ap, sym, _∙_, subst}
 use mathlib.Core.Bool.{Bool, true, false, not, _&&_, _||_, true≢false}
 use mathlib.Core.List.{List, [], _∷_}
 use mathlib.Core.Logic.{inl, inr}
-use mathlib.Core.Option.{Option, some}
+use mathlib.Core.Option.{Option, none, some}
 use Prim.Native.Nat.{ℕ, zero, suc}
 use Rattle.ground.specs.Bytes.{bytes}
 use Rattle.ground.specs.Lists.{any, at}
@@ -18,16 +18,18 @@ use Rattle.tables.specs.Find.{namedSort, memberRow}
 use Rattle.tables.specs.Sort.{Ext, decimal, datetime, duration, Sort, entityOf, recordOf, Member, Tables}
 use Rattle.tables.proofs.Places.{any-at}
 use Rattle.tables.proofs.Only.{member-found}
+use Rattle.shapes.specs.declared.shape.BinaryOp.{BinaryOp}
+use Rattle.shapes.specs.declared.shape.UnaryOp.{UnaryOp}
 use Rattle.shapes.specs.Shape.{is}
 use Rattle.shapes.specs.SortShape.{SortShape, sortShape}
 use Rattle.sorts.specs.Result.{ok}
 use Rattle.sorts.specs.Sort.{sortWord, sortOf, readSort}
 use Rattle.values.specs.Value.{Value, Values}
-use Rattle.means.specs.Literal.{Lit, read, readWith}
+use Rattle.means.specs.Literal.{Lit, readWith}
 use Rattle.well_sorted.proofs.Results.{refuses, went, was-found}
 use Rattle.well_sorted.proofs.Finds.{IsNamed, named-is}
-use Rattle.well_sorted.proofs.Views.{extName, SortView, s-word, s-width, s-option, s-set, s-none, sort-view}
-use Rattle.well_sorted.proofs.Readings.{FieldReadings, f-nil, f-cons, Reading, r-bits, r-string, r-true, r-false, r-member, r-none, r-asSome, r-some, r-empty, r-singleton, r-union, r-extension, r-indexed, r-entity, r-record, reading}
+use Rattle.well_sorted.proofs.Views.{extName, unaryName, binaryName, SortView, s-word, s-width, s-option, s-set, s-none, sort-view}
+use Rattle.well_sorted.proofs.Readings.{FieldReadings, f-nil, f-cons, Reading, r-bits, r-string, r-true, r-false, r-member, r-none, r-asSome, r-some, r-empty, r-singleton, r-union, r-unary, r-binary, r-ite, r-extension, r-indexed, r-entity, r-record, reading}
 use Rattle.demand.specs.Mention.{sameName, indexes, mentions, mentionsAny}
 use Rattle.demand.specs.Premise.{namesSort, apart}
 
@@ -151,12 +153,24 @@ module _ (T : Tables) (x : List ℕ) (apart-name : apart T x ≡ true) where
   free-ext datetime = free-word (bytes "Datetime") refl
   free-ext duration = free-word (bytes "Duration") refl
 
-  module _ (a : ℕ) (below : (e : Option ℕ) (t : Tree) (l : Lit) → read T a e t ≡ ok l → mentions t x ≡ false) where
-    free-fields : (fs : List ℕ) (us : Trees) (vs : Values) → FieldReadings false T a fs us vs → mentionsAny us x ≡ false
+  free-unary : (op : UnaryOp) → mentions (symbol (unaryName op)) x ≡ false
+  unfolding kept keptWords any sameText
+  free-unary UnaryOp.Not = free-word (bytes "not") refl
+  free-unary UnaryOp.Bvnego = free-word (bytes "bvnego") refl
+
+  free-binary : (op : BinaryOp) → mentions (symbol (binaryName op)) x ≡ false
+  unfolding kept keptWords any sameText
+  free-binary BinaryOp.Or = free-word (bytes "or") refl
+  free-binary BinaryOp.Equal = free-word (bytes "=") refl
+  free-binary BinaryOp.Bvsaddo = free-word (bytes "bvsaddo") refl
+  free-binary BinaryOp.Bvsmulo = free-word (bytes "bvsmulo") refl
+
+  module _ (worked : Bool) (a : ℕ) (below : (e : Option ℕ) (t : Tree) (l : Lit) → readWith T worked a e t ≡ ok l → mentions t x ≡ false) where
+    free-fields : (fs : List ℕ) (us : Trees) (vs : Values) → FieldReadings worked T a fs us vs → mentionsAny us x ≡ false
     free-fields _ _ _ f-nil = free-nil
     free-fields _ _ _ (f-cons {f = f} {fs = fs} {u = u} {us = us} {vs = vs} l e k h) = free-cons u us (below (some f) u l e) (free-fields fs us vs h)
 
-    free-reading : (e : Option ℕ) (t : Tree) (row : ℕ) (v : Value) → Reading false T a e t row v → mentions t x ≡ false
+    free-reading : (e : Option ℕ) (t : Tree) (row : ℕ) (v : Value) → Reading worked T a e t row v → mentions t x ≡ false
     unfolding kept keptWords any sameText
     free-reading e _ _ _ (r-bits {w = w} {n = n} k) = free-bits w n
     free-reading e _ _ _ (r-string {s = s} k) = free-string s
@@ -170,13 +184,17 @@ module _ (T : Tables) (x : List ℕ) (apart-name : apart T x ≡ true) where
     free-reading e _ _ _ (r-empty {t = t} {row = row} q h k) = free-two _ _ t (free-word (bytes "as") refl) (free-word (bytes "set.empty") refl) (free-sort a t row h)
     free-reading e _ _ _ (r-singleton {v = v} o l h m k) = free-one _ v (free-word (bytes "set.singleton") refl) (below o v l m)
     free-reading e _ _ _ (r-union {v = v} {w = w} l m f g h y z) = free-two _ v w (free-word (bytes "set.union") refl) (below e v l f) (below e w m g)
+    free-reading e _ _ _ (r-unary {v = v} op l h m y k) = free-one _ v (free-unary op) (below none v l m)
+    free-reading e _ _ _ (r-binary {v = v} {w = w} op l m h f g y k) = free-two _ v w (free-binary op) (below none v l f) (below none w m g)
+    free-reading e _ _ _ (r-ite {c = c} {v = v} {w = w} k l m h f g y z q) =
+        free-app _ (free-cons _ _ (free-word (bytes "ite") refl) (free-cons _ _ (below none c k f) (free-cons _ _ (below e v l g) (free-cons _ _ (below e w m y) free-nil))))
     free-reading e _ _ _ (r-extension {x = y} {n = n} k) = free-one _ _ (free-ext y) (free-bits 64 n)
     free-reading e _ _ _ (r-indexed h f k) = free-index _
     free-reading e _ _ _ (r-entity {f = f} {s = s} {row = row} h k) = free-one f _ (free-symbol f (sort-apart row (entityOf f) k)) (free-string s)
     free-reading e _ _ _ (r-record {f = f} {us = us} {row = row} {vs = vs} fs h k g) =
         free-app _ (free-cons _ _ (free-symbol f (sort-apart row (recordOf f fs) k)) (free-fields fs us vs g))
 
-  pub free-read : (allow : ℕ) (e : Option ℕ) (t : Tree) (l : Lit) → read T allow e t ≡ ok l → mentions t x ≡ false
+  pub free-read : (worked : Bool) (allow : ℕ) (e : Option ℕ) (t : Tree) (l : Lit) → readWith T worked allow e t ≡ ok l → mentions t x ≡ false
   unfolding readWith
-  free-read zero e t l m = refuses m
-  free-read (suc a) e t l m = free-reading a (λ o u k h. free-read a o u k h) e t (l .row) (l .value) (reading T false a e t l m)
+  free-read worked zero e t l m = refuses m
+  free-read worked (suc a) e t l m = free-reading worked a (λ o u k h. free-read worked a o u k h) e t (l .row) (l .value) (reading T worked a e t l m)

@@ -23,7 +23,7 @@ use Rattle.values.specs.Normal.{normal}
 use Rattle.values.specs.Value.{Value}
 use Rattle.means.specs.Literal.{Lit, read}
 use Rattle.well_sorted.proofs.Views.{extName}
-use Rattle.well_sorted.proofs.Readings.{Reading, r-bits, r-string, r-true, r-false, r-member, r-none, r-asSome, r-some, r-empty, r-singleton, r-union, r-extension, r-indexed, r-entity, r-record, reading}
+use Rattle.well_sorted.proofs.Readings.{Reading, r-bits, r-string, r-true, r-false, r-member, r-none, r-asSome, r-some, r-empty, r-singleton, r-union, r-unary, r-binary, r-ite, r-extension, r-indexed, r-entity, r-record, reading}
 use Rattle.demand.specs.Mention.{sameName, mentions}
 use Rattle.demand.specs.Meaning.{Meant, literal, operated, headed, meaning}
 use Rattle.demand.specs.Premise.{apart}
@@ -77,6 +77,9 @@ module _ (T : Tables) (rules : lawful T ≡ true) where
   headless a d _ _ _ (r-empty q h k) = λ ms e o. refl
   headless a d _ _ _ (r-singleton x l h m k) = λ ms e o. refl
   headless a d _ _ _ (r-union l m f g h x y) = λ ms e o. refl
+  headless a d _ _ _ (r-unary op l h m f k) = absurd (true≢false (sym h))
+  headless a d _ _ _ (r-binary op l m h x y f k) = absurd (true≢false (sym h))
+  headless a d _ _ _ (r-ite k l m h f g x y q) = absurd (true≢false (sym h))
   headless a d _ _ _ (r-extension {x = x} k) = λ ms e o. ext-head ms e o x
   headless a d _ _ _ (r-indexed h f k) = λ ms e o. refl
   headless a d _ _ _ (r-entity {f = f} {row = row} h k) = λ ms e o. other-head ms e o f (entity-kept row f k)
@@ -84,7 +87,7 @@ module _ (T : Tables) (rules : lawful T ≡ true) where
 
   module _ (x : List ℕ) (apart-name : apart T x ≡ true) (v : Value) where
     literal-is : (t : Tree) (e : Option ℕ) (l : Lit) → read T levels e t ≡ ok l → literal T x t e ≡ some (normal (l .value))
-    literal-is t e l r = rw (free-read T x apart-name levels e t l r, r) refl
+    literal-is t e l r = rw (free-read T x apart-name false levels e t l r, r) refl
 
     not-argument : (s : List ℕ) → mentions (symbol s) x ≡ false → sameName s x ≡ false
     unfolding mentions
@@ -95,6 +98,6 @@ module _ (T : Tables) (rules : lawful T ≡ true) where
     literal-means (bitVec w n) e l r = literal-is (bitVec w n) e l r
     literal-means (numeral n) e l r = literal-is (numeral n) e l r
     literal-means (string s) e l r = literal-is (string s) e l r
-    literal-means (symbol s) e l r = rw (not-argument s (free-read T x apart-name levels e (symbol s) l r)) (literal-is (symbol s) e l r)
+    literal-means (symbol s) e l r = rw (not-argument s (free-read T x apart-name false levels e (symbol s) l r)) (literal-is (symbol s) e l r)
     literal-means (app us) e l r =
         headless 1023 e (app us) (l .row) (l .value) (reading T false 1023 e (app us) l r) _ e _ ∙ literal-is (app us) e l r

@@ -1,7 +1,7 @@
 -- A refusal of the walk tells no need, and the need of a listing is below 2 ^ 56: so one word can tell a refusal's number and its detail.
 -- Assumes nothing.
 use mathlib.Core.Path.{_≡_, refl, sym, ap, _∙_, subst}
-use mathlib.Core.Bool.{true}
+use mathlib.Core.Bool.{true, false}
 use mathlib.Core.List.{List}
 use mathlib.Core.Option.{Option, none, some}
 use Prim.Native.Nat.{ℕ, _*_, _^_, _≤_, _<_}

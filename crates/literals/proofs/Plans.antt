@@ -1,11 +1,14 @@
 -- The plan of a literal: one law for each way out.
 -- Assumes nothing.
 use mathlib.Core.Path.{_≡_, refl, sym, ap, _∙_, subst}
-use mathlib.Core.List.{List}
+use mathlib.Core.Bool.{false}
+use mathlib.Core.List.{List, [], _∷_}
 use mathlib.Core.Option.{Option, none, some}
 use Prim.Native.Nat.{ℕ, suc, _+_, _*_, _%_, _/_, _^_}
 use native.Mathlib.Omega.{arith}
 use lib.ListN.{length}
+use types.Run.{OneOf, miss}
+use denote.Enum.Declared.{tagOf}
 use Rattle.ground.specs.Lists.{at}
 use Rattle.refusals.specs.declared.Refusal.{Refusal}
 use Rattle.refusals.specs.declared.Refusal.the-variants.{UnknownLiteral, NotCovered}
@@ -27,6 +30,7 @@ use Rattle.shapes.specs.Shows.{Standing, Shows, ShapeAt, extOf}
 use Rattle.shapes.proofs.Looks.{kind, kinds, symbol-there}
 use Rattle.sorts.specs.declared.sort.Sorted.{Sorted}
 use Rattle.sorts.specs.Reads.{sorted, ReadsSort}
+use Rattle.shapes.proofs.shape.Found as ArmType
 use Rattle.sorts.specs.Result.{Result, ok, refused, _>>=_}
 use Rattle.sorts.specs.Sort.{readSort}
 use Rattle.sorts.proofs.Read.{read-row, read-refused}
@@ -108,8 +112,25 @@ module _ (sorts : List ℕ) (most : ℕ) (names ws ts : List ℕ) (i : ℕ) (exp
   as-arm : (a : Arm) → f ≡ a → (s : Shape) → Shows ws ts f s → Shows ws ts a s
   as-arm a e s g = subst (λ (x : Arm). Shows ws ts x s) e g
 
-  pub arm-operator : f ≡ Arm.Operator → PlansApp sorts most names ws ts i expected below (Plan.Done (Literal.Refused NotCovered))
-  arm-operator e = by-arm (Plan.Done (Literal.Refused NotCovered)) (λ l s n m sh g. sym (ap (λ (x : Shape). answer (Arms l x)) (as-arm Arm.Operator e sh g)))
+  -- not covered by document 01
+  pub arm-operator : OneOf (0 ∷ 11 ∷ 12 ∷ 13 ∷ []) (tagOf ArmType.the-type f) → PlansApp sorts most names ws ts i expected below (Plan.Done (Literal.Refused NotCovered))
+  arm-operator h = by-arm (Plan.Done (Literal.Refused NotCovered)) (λ l s n m sh g. sym (ap answer (go f h sh g l)))
+    where
+      go : (a : Arm) → OneOf (0 ∷ 11 ∷ 12 ∷ 13 ∷ []) (tagOf ArmType.the-type a) → (s : Shape) → Shows ws ts a s → (l : Lent) → Arms l s ≡ refused NotCovered
+      go Arm.Uncovered h s g l = ap (λ (x : Shape). Arms l x) g
+      go (Arm.AsNone sort) h s g l = absurd (miss (0 ∷ 11 ∷ 12 ∷ 13 ∷ []) 1 tt h)
+      go (Arm.AsSome sort value) h s g l = absurd (miss (0 ∷ 11 ∷ 12 ∷ 13 ∷ []) 2 tt h)
+      go (Arm.SomeOf value) h s g l = absurd (miss (0 ∷ 11 ∷ 12 ∷ 13 ∷ []) 3 tt h)
+      go (Arm.AsEmpty sort) h s g l = absurd (miss (0 ∷ 11 ∷ 12 ∷ 13 ∷ []) 4 tt h)
+      go (Arm.Singleton value) h s g l = absurd (miss (0 ∷ 11 ∷ 12 ∷ 13 ∷ []) 5 tt h)
+      go (Arm.Union left right) h s g l = absurd (miss (0 ∷ 11 ∷ 12 ∷ 13 ∷ []) 6 tt h)
+      go (Arm.Extension kind low) h s g l = absurd (miss (0 ∷ 11 ∷ 12 ∷ 13 ∷ []) 7 tt h)
+      go (Arm.Indexed offset size low high) h s g l = absurd (miss (0 ∷ 11 ∷ 12 ∷ 13 ∷ []) 8 tt h)
+      go (Arm.Made offset size first many) h s g l = absurd (miss (0 ∷ 11 ∷ 12 ∷ 13 ∷ []) 9 tt h)
+      go Arm.Other h s g l = absurd (miss (0 ∷ 11 ∷ 12 ∷ 13 ∷ []) 10 tt h)
+      go (Arm.Unary op value) h s g l = ap (λ (x : Shape). Arms l x) (g .1)
+      go (Arm.Binary op left right) h s g l = ap (λ (x : Shape). Arms l x) (g .2)
+      go (Arm.Ite condition left right) h s g l = ap (λ (x : Shape). Arms l x) (g .3)
 
   pub arm-other : f ≡ Arm.Other → PlansApp sorts most names ws ts i expected below (Plan.Done (Literal.Refused UnknownLiteral))
   arm-other e = by-arm (Plan.Done (Literal.Refused UnknownLiteral)) (λ l s n m sh g. sym (ap (λ (x : Shape). answer (Arms l x)) (as-arm Arm.Other e sh g)))

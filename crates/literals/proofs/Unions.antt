@@ -12,6 +12,7 @@ use Rattle.sorts.specs.Result.{Result, ok, refused, _>>=_, unless}
 use Rattle.values.specs.Value.{Value, Values, vBool, vString, vExt, vBits, vNone, vSome, vSet, vEntity, vRecord, union as both}
 use Rattle.literals.specs.declared.answer.Literal.{Literal}
 use Rattle.values.specs.Holds.{held}
+use Rattle.values.proofs.Holds.{held-set}
 use Rattle.means.specs.Literal.{Lit, lit, unionLit}
 use Rattle.literals.specs.Answer.{answer, need, some?}
 use Rattle.literals.specs.Parts.{UnionNeed, UnionOf}

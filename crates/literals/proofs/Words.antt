@@ -15,7 +15,7 @@ use mir.ValLaws.{toZ-ofZ}
 use Rattle.ground.specs.Bytes.{bytes}
 use Rattle.ground.specs.Lists.{at}
 use Rattle.refusals.specs.declared.Refusal.the-variants.{UnknownLiteral}
-use Rattle.decimals.specs.Decimal.{digitCount}
+use Rattle.decimals.specs.Decimal.{digitCount, signedDecimal}
 use Rattle.decimals.proofs.Magnitudes.{back}
 use Rattle.words.specs.Extension.{signed}
 use Rattle.arena.specs.Text.{sameText}

@@ -1,5 +1,6 @@
 -- Document 01, "Sorts and literals": what is left to read of a literal once its own node is read: nothing, one literal, two, or a record's fields.
 use mathlib.Core.Path.{_≡_}
+use mathlib.Core.Bool.{false}
 use mathlib.Core.List.{List}
 use mathlib.Core.Option.{Option}
 use Prim.Native.Nat.{ℕ, suc}

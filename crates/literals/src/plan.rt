@@ -196,7 +196,18 @@ fn plan_app(
 {
     let shape = shape_at(nodes, text, at);
     match shape {
-        Shape::Operator => Plan::Done(Literal::Refused(Refusal::NotCovered)),
+        Shape::Uncovered
+        | Shape::Unary { op: _, value: _ }
+        | Shape::Binary {
+            op: _,
+            left: _,
+            right: _,
+        }
+        | Shape::Ite {
+            condition: _,
+            left: _,
+            right: _,
+        } => Plan::Done(Literal::Refused(Refusal::NotCovered)),
         Shape::AsNone { sort } => {
             let sorted = read_sort(sorts, names, nodes, text, sort, below);
             let literal = bare_of(sorts, sorted, Form::Option);

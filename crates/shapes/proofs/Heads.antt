@@ -40,10 +40,14 @@ module _ (ws ts : List ℕ) (offset size first many : ℕ) where
   applied-ite h t second third p q f (cons a (cons b nil)) r s = let c = s .many-are in absurd (omega arith)
   applied-ite h t second third p q f (cons a (cons b (cons c nil))) r s =
       let o = others-of ws ts a (cons b (cons c nil)) first many s second 2 p (s .many-are) in
-      let u = others-of ws ts b (cons c nil) second 2 o third 1 q refl in
-      (
-        a, b, c, rw (said-so ts offset size f r (bytes "ite") true t),
-        first-of ws ts a (cons b (cons c nil)) first many s, first-of ws ts b (cons c nil) second 2 o, first-of ws ts c nil third 1 u,
+      let u = others-of ws ts b (cons c nil) second 2 o third 1 q refl in (
+        a,
+        b,
+        c,
+        rw (said-so ts offset size f r (bytes "ite") true t),
+        first-of ws ts a (cons b (cons c nil)) first many s,
+        first-of ws ts b (cons c nil) second 2 o,
+        first-of ws ts c nil third 1 u,
       )
   applied-ite h t second third p q f (cons a (cons b (cons c (cons d us)))) r s = let c = s .many-are in absurd (omega arith)
 

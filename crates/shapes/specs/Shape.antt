@@ -13,9 +13,6 @@ use Rattle.shapes.specs.declared.shape.BinaryOp.{BinaryOp}
 
 -- an arm, and the trees that it hands on
 pub data Shape : Type 0 where
-  unary : UnaryOp → Tree → Shape
-  binary : BinaryOp → Tree → Tree → Shape
-  ite : Tree → Tree → Tree → Shape
   uncovered : Shape
   asNone : Tree → Shape
   asSome : Tree → Tree → Shape
@@ -27,6 +24,9 @@ pub data Shape : Type 0 where
   indexed : List ℕ → ℕ → Shape
   made : List ℕ → Trees → Shape
   other : Shape
+  unary : UnaryOp → Tree → Shape
+  binary : BinaryOp → Tree → Tree → Shape
+  ite : Tree → Tree → Tree → Shape
 
 -- a tree of one kind, and what holds of any other
 abbrev pub onSymbol {ℓ} : {A : Type ℓ} → Tree → A → (List ℕ → A) → A

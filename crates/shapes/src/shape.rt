@@ -36,20 +36,6 @@ pub enum BinaryOp {
 
 // An arm, with the nodes, the text and the numbers that it hands on.
 pub enum Found {
-    Unary {
-        op: UnaryOp,
-        value: usize,
-    },
-    Binary {
-        op: BinaryOp,
-        left: usize,
-        right: usize,
-    },
-    Ite {
-        condition: usize,
-        left: usize,
-        right: usize,
-    },
     Uncovered,
     AsNone {
         sort: usize,
@@ -88,6 +74,20 @@ pub enum Found {
         count: u64,
     },
     Other,
+    Unary {
+        op: UnaryOp,
+        value: usize,
+    },
+    Binary {
+        op: BinaryOp,
+        left: usize,
+        right: usize,
+    },
+    Ite {
+        condition: usize,
+        left: usize,
+        right: usize,
+    },
 }
 
 // (Decimal b), (Datetime b), (Duration b) with b of 64 bits, or a name's application.

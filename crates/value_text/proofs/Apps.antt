@@ -25,7 +25,7 @@ use Rattle.tables.specs.Layout.{Lent, tablesOf}
 use Rattle.tables.specs.Sort.{Tables}
 use Rattle.shapes.specs.declared.shape.Found.{Found}
 use Rattle.shapes.specs.declared.shape.Kind.{Kind}
-use Rattle.shapes.specs.Shape.{Shape, operator, other, shape}
+use Rattle.shapes.specs.Shape.{Shape, shape}
 use Rattle.shapes.specs.Shows.{Standing, StandingAll, Shows, ShapeAt, extOf, Reads as TextReads}
 use Rattle.shapes.proofs.Stood.{first-of}
 use Rattle.shapes.proofs.shape.Found as FoundType
@@ -143,21 +143,24 @@ module _ (sorts names ws ts : List ℕ) where
     At l below e k s = Reads (tablesOf l) below e k s
 
     -- what is no literal
-    pub app-other : (o : Opened) → OneOf (0 ∷ 10 ∷ []) (tagOf FoundType.the-type found) → OpensApp sorts names ws ts i a b o
-    app-other o h = by-arm o found refl (λ l p n us below x k w q row hs. go found h (shape us) w (λ e. refuses (subst (At l below x k) e q)) (λ e. refuses (subst (At l below x k) e q)))
+    pub app-other : (o : Opened) → OneOf (0 ∷ 10 ∷ 11 ∷ 12 ∷ 13 ∷ []) (tagOf FoundType.the-type found) → OpensApp sorts names ws ts i a b o
+    app-other o h = by-arm o found refl (λ l p n us below x k w q row hs. go l below x k found h (shape us) w q)
       where
-        go : {R : Type 0} (f : Found) → OneOf (0 ∷ 10 ∷ []) (tagOf FoundType.the-type f) → (s : Shape) → Shows ws ts f s → (s ≡ operator → R) → (s ≡ other → R) → R
-        go Found.Operator h s w u v = u w
-        go (Found.AsNone sort) h s w u v = absurd (miss (0 ∷ 10 ∷ []) 1 tt h)
-        go (Found.AsSome sort value) h s w u v = absurd (miss (0 ∷ 10 ∷ []) 2 tt h)
-        go (Found.SomeOf value) h s w u v = absurd (miss (0 ∷ 10 ∷ []) 3 tt h)
-        go (Found.AsEmpty sort) h s w u v = absurd (miss (0 ∷ 10 ∷ []) 4 tt h)
-        go (Found.Singleton value) h s w u v = absurd (miss (0 ∷ 10 ∷ []) 5 tt h)
-        go (Found.Union left right) h s w u v = absurd (miss (0 ∷ 10 ∷ []) 6 tt h)
-        go (Found.Extension kind low) h s w u v = absurd (miss (0 ∷ 10 ∷ []) 7 tt h)
-        go (Found.Indexed offset size low high) h s w u v = absurd (miss (0 ∷ 10 ∷ []) 8 tt h)
-        go (Found.Made offset size first many) h s w u v = absurd (miss (0 ∷ 10 ∷ []) 9 tt h)
-        go Found.Other h s w u v = v w
+        go : {R : Type 0} (l : Lent) (below : ℕ) (x : Option ℕ) (k : Lit) (f : Found) → OneOf (0 ∷ 10 ∷ 11 ∷ 12 ∷ 13 ∷ []) (tagOf FoundType.the-type f) → (s : Shape) → Shows ws ts f s → At l below x k s → R
+        go l below x k Found.Uncovered h s w q = refuses (subst (At l below x k) w q)
+        go l below x k (Found.AsNone sort) h s w q = absurd (miss (0 ∷ 10 ∷ 11 ∷ 12 ∷ 13 ∷ []) 1 tt h)
+        go l below x k (Found.AsSome sort value) h s w q = absurd (miss (0 ∷ 10 ∷ 11 ∷ 12 ∷ 13 ∷ []) 2 tt h)
+        go l below x k (Found.SomeOf value) h s w q = absurd (miss (0 ∷ 10 ∷ 11 ∷ 12 ∷ 13 ∷ []) 3 tt h)
+        go l below x k (Found.AsEmpty sort) h s w q = absurd (miss (0 ∷ 10 ∷ 11 ∷ 12 ∷ 13 ∷ []) 4 tt h)
+        go l below x k (Found.Singleton value) h s w q = absurd (miss (0 ∷ 10 ∷ 11 ∷ 12 ∷ 13 ∷ []) 5 tt h)
+        go l below x k (Found.Union left right) h s w q = absurd (miss (0 ∷ 10 ∷ 11 ∷ 12 ∷ 13 ∷ []) 6 tt h)
+        go l below x k (Found.Extension kind low) h s w q = absurd (miss (0 ∷ 10 ∷ 11 ∷ 12 ∷ 13 ∷ []) 7 tt h)
+        go l below x k (Found.Indexed offset size low high) h s w q = absurd (miss (0 ∷ 10 ∷ 11 ∷ 12 ∷ 13 ∷ []) 8 tt h)
+        go l below x k (Found.Made offset size first many) h s w q = absurd (miss (0 ∷ 10 ∷ 11 ∷ 12 ∷ 13 ∷ []) 9 tt h)
+        go l below x k Found.Other h s w q = refuses (subst (At l below x k) w q)
+        go l below x k (Found.Unary op value) h s w q = refuses (subst (At l below x k) (w .1) q)
+        go l below x k (Found.Binary op left right) h s w q = refuses (subst (At l below x k) (w .2) q)
+        go l below x k (Found.Ite condition left right) h s w q = refuses (subst (At l below x k) (w .3) q)
 
     pub app-none : (sort r : ℕ) → found ≡ Found.AsNone sort → Offers a b 0 (bytes "none") r → OpensApp sorts names ws ts i a b (Opened.Whole r)
     unfolding text normal
@@ -173,7 +176,7 @@ module _ (sorts names ws ts : List ℕ) where
         (bytes "some(", d, some-fielded (tablesOf l) ws ts below value (w .0) (w .2) (k .value) (some-of (tablesOf l) below x k (w .0) (subst (At l below x k) (w .1) q)) row hs))
 
     shown-set : (f : Found) → OneOf (4 ∷ 5 ∷ 6 ∷ []) (tagOf FoundType.the-type f) → (s : Shape) → Shows ws ts f s → (T : Tables) (below : ℕ) (e : Option ℕ) (k : Lit) → setShape T below e k s ≡ true
-    shown-set Found.Operator h s w T below e k = absurd (miss (4 ∷ 5 ∷ 6 ∷ []) 0 tt h)
+    shown-set Found.Uncovered h s w T below e k = absurd (miss (4 ∷ 5 ∷ 6 ∷ []) 0 tt h)
     shown-set (Found.AsNone sort) h s w T below e k = absurd (miss (4 ∷ 5 ∷ 6 ∷ []) 1 tt h)
     shown-set (Found.AsSome sort value) h s w T below e k = absurd (miss (4 ∷ 5 ∷ 6 ∷ []) 2 tt h)
     shown-set (Found.SomeOf value) h s w T below e k = absurd (miss (4 ∷ 5 ∷ 6 ∷ []) 3 tt h)
@@ -184,6 +187,9 @@ module _ (sorts names ws ts : List ℕ) where
     shown-set (Found.Indexed offset size low high) h s w T below e k = absurd (miss (4 ∷ 5 ∷ 6 ∷ []) 8 tt h)
     shown-set (Found.Made offset size first many) h s w T below e k = absurd (miss (4 ∷ 5 ∷ 6 ∷ []) 9 tt h)
     shown-set Found.Other h s w T below e k = absurd (miss (4 ∷ 5 ∷ 6 ∷ []) 10 tt h)
+    shown-set (Found.Unary op value) h s w T below e k = absurd (miss (4 ∷ 5 ∷ 6 ∷ []) 11 tt h)
+    shown-set (Found.Binary op left right) h s w T below e k = absurd (miss (4 ∷ 5 ∷ 6 ∷ []) 12 tt h)
+    shown-set (Found.Ite condition left right) h s w T below e k = absurd (miss (4 ∷ 5 ∷ 6 ∷ []) 13 tt h)
 
     pub app-set : (place : ℕ) → OneOf (4 ∷ 5 ∷ 6 ∷ []) (tagOf FoundType.the-type found) → Offers a b 0 (bytes "{") place → OpensApp sorts names ws ts i a b (Opened.Set place)
     app-set place h f = by-arm (Opened.Set place) found refl (λ l p n us below x k w q row hs.

@@ -17,7 +17,7 @@ use Rattle.words.specs.Run.{parsed}
 use Rattle.arena.specs.Tree.{Tree, Trees, bitVec as bits, numeral, string as quoted, symbol, app, nil, cons}
 use Rattle.tables.specs.Find.{namedSort}
 use Rattle.tables.specs.Sort.{Ext, Sort, bool, string, ext, bitVec, optionOf, setOf, entityOf, recordOf, Tables}
-use Rattle.shapes.specs.Shape.{Shape, operator, asNone, asSome, someOf, asEmpty, singleton, union, extension, indexed, made, other, shape}
+use Rattle.shapes.specs.Shape.{Shape, uncovered, unary, binary, ite, asNone, asSome, someOf, asEmpty, singleton, union, extension, indexed, made, other, shape}
 use Rattle.sorts.specs.Result.{ok}
 use Rattle.sorts.specs.Sort.{readSort}
 use Rattle.values.specs.Value.{Value, Values, vBool, vString, vExt, vBits, vNone, vSome, vSet, vEntity, vRecord, vNil, vCons, union as both}
@@ -204,7 +204,7 @@ module _ (T : Tables) (a : ℕ) (e : Option ℕ) (k : Lit) where
 
   -- the shapes of sets
   abbrev pub setShape : Shape → Bool
-  setShape operator = false
+  setShape uncovered = false
   setShape (asNone t) = false
   setShape (asSome t v) = false
   setShape (someOf v) = false
@@ -215,9 +215,12 @@ module _ (T : Tables) (a : ℕ) (e : Option ℕ) (k : Lit) where
   setShape (indexed ds w) = false
   setShape (made f us) = false
   setShape other = false
+  setShape (unary op v) = false
+  setShape (binary op v w) = false
+  setShape (ite c v w) = false
 
   pub other-shape : (s : Shape) → Reads s → setShape s ≡ false → setOf? (k .value) ≡ false
-  other-shape operator m h = refuses m
+  other-shape uncovered m h = refuses m
   other-shape (asNone t) m h = sym (ap setOf? (as-none t m))
   other-shape (asSome t v) m h = sym (ap setOf? (as-some t v m .is))
   other-shape (someOf v) m h = sym (ap setOf? (some-of v m .is))
@@ -228,9 +231,12 @@ module _ (T : Tables) (a : ℕ) (e : Option ℕ) (k : Lit) where
   other-shape (indexed ds w) m h = sym (ap setOf? (as-indexed ds w m .is))
   other-shape (made f us) m h = let n = named-row f us m in row-not-set (n .0) (at (T .sorts) (n .0)) us (n .2)
   other-shape other m h = refuses m
+  other-shape (unary op v) m h = refuses m
+  other-shape (binary op v w) m h = refuses m
+  other-shape (ite c v w) m h = refuses m
 
   pub set-shape : (s : Shape) → Reads s → setShape s ≡ true → (vs : Values) × (vSet vs ≡ k .value)
-  set-shape operator m h = refuses m
+  set-shape uncovered m h = refuses m
   set-shape (asNone t) m h = absurd (true≢false (sym h))
   set-shape (asSome t v) m h = absurd (true≢false (sym h))
   set-shape (someOf v) m h = absurd (true≢false (sym h))
@@ -241,6 +247,9 @@ module _ (T : Tables) (a : ℕ) (e : Option ℕ) (k : Lit) where
   set-shape (indexed ds w) m h = absurd (true≢false (sym h))
   set-shape (made f us) m h = absurd (true≢false (sym h))
   set-shape other m h = absurd (true≢false (sym h))
+  set-shape (unary op v) m h = refuses m
+  set-shape (binary op v w) m h = refuses m
+  set-shape (ite c v w) m h = refuses m
 
   -- what is read as a set is an application
   pub set-app : (t : Tree) (vs : Values) → read T (suc a) e t ≡ ok k → k .value ≡ vSet vs → (us : Trees) × (t ≡ app us)

@@ -45,7 +45,7 @@ use Rattle.value_text.proofs.Closes.{length-closed}
 use Rattle.value_text.proofs.Lays.{lays-then, lays-put, lays-none, lays-as, laid-part, lays-part, wrote-front}
 
 abbrev setFound : Found → Bool
-setFound Found.Operator = false
+setFound Found.Uncovered = false
 setFound (Found.AsNone sort) = false
 setFound (Found.AsSome sort value) = false
 setFound (Found.SomeOf value) = false
@@ -56,6 +56,9 @@ setFound (Found.Extension kind low) = false
 setFound (Found.Indexed offset size low high) = false
 setFound (Found.Made offset size first many) = false
 setFound Found.Other = false
+setFound (Found.Unary op value) = false
+setFound (Found.Binary op left right) = false
+setFound (Found.Ite condition left right) = false
 
 -- the run of both is the runs one after the other
 normals-both : (vs ws : Values) → normals (both vs ws) ≡ both (normals vs) (normals ws)
@@ -86,7 +89,7 @@ module _ (sorts members names ws ts : List ℕ) (i : ℕ) (found : Found) (at : 
   shown-other s w h T a e k = go found s w h
     where
       go : (f : Found) (s : Shape) → Shows ws ts f s → setFound f ≡ false → setShape T a e k s ≡ false
-      go Found.Operator s w h = ap (setShape T a e k) w
+      go Found.Uncovered s w h = ap (setShape T a e k) w
       go (Found.AsNone sort) s w h = ap (setShape T a e k) (w .1)
       go (Found.AsSome sort value) s w h = ap (setShape T a e k) (w .2)
       go (Found.SomeOf value) s w h = ap (setShape T a e k) (w .1)
@@ -97,6 +100,9 @@ module _ (sorts members names ws ts : List ℕ) (i : ℕ) (found : Found) (at : 
       go (Found.Indexed offset size low high) s w h = ap (setShape T a e k) (w .1)
       go (Found.Made offset size first many) s w h = ap (setShape T a e k) (w .2)
       go Found.Other s w h = ap (setShape T a e k) w
+      go (Found.Unary op value) s w h = ap (setShape T a e k) (w .1)
+      go (Found.Binary op left right) s w h = ap (setShape T a e k) (w .2)
+      go (Found.Ite condition left right) s w h = ap (setShape T a e k) (w .3)
 
   -- an application's shape and what was read, of a tree that is read as a set
   module _ (below : ℕ) (a b : List ℕ) (place r : ℕ) where
@@ -123,21 +129,24 @@ module _ (sorts members names ws ts : List ℕ) (i : ℕ) (found : Found) (at : 
       subst (λ (us : Values). Lays (run (texts us)) (run (texts (normals us))) a a place place) z (lays-none a place))
 
   -- a set without members, and what is no set
-  pub members-else : (below : ℕ) (a : List ℕ) (place : ℕ) → OneOf (0 ∷ 1 ∷ 2 ∷ 3 ∷ 4 ∷ 7 ∷ 8 ∷ 9 ∷ 10 ∷ []) (tagOf FoundType.the-type found) → WritesMembers sorts members names ws ts i below a a place place
+  pub members-else : (below : ℕ) (a : List ℕ) (place : ℕ) → OneOf (0 ∷ 1 ∷ 2 ∷ 3 ∷ 4 ∷ 7 ∷ 8 ∷ 9 ∷ 10 ∷ 11 ∷ 12 ∷ 13 ∷ []) (tagOf FoundType.the-type found) → WritesMembers sorts members names ws ts i below a a place place
   members-else below a place h = go found refl h
     where
-      go : (f : Found) → found ≡ f → OneOf (0 ∷ 1 ∷ 2 ∷ 3 ∷ 4 ∷ 7 ∷ 8 ∷ 9 ∷ 10 ∷ []) (tagOf FoundType.the-type f) → WritesMembers sorts members names ws ts i below a a place place
-      go Found.Operator e h = members-other below a place (ap setFound e)
+      go : (f : Found) → found ≡ f → OneOf (0 ∷ 1 ∷ 2 ∷ 3 ∷ 4 ∷ 7 ∷ 8 ∷ 9 ∷ 10 ∷ 11 ∷ 12 ∷ 13 ∷ []) (tagOf FoundType.the-type f) → WritesMembers sorts members names ws ts i below a a place place
+      go Found.Uncovered e h = members-other below a place (ap setFound e)
       go (Found.AsNone sort) e h = members-other below a place (ap setFound e)
       go (Found.AsSome sort value) e h = members-other below a place (ap setFound e)
       go (Found.SomeOf value) e h = members-other below a place (ap setFound e)
       go (Found.AsEmpty sort) e h = members-empty below a place sort e
-      go (Found.Singleton value) e h = absurd (miss (0 ∷ 1 ∷ 2 ∷ 3 ∷ 4 ∷ 7 ∷ 8 ∷ 9 ∷ 10 ∷ []) 5 tt h)
-      go (Found.Union left right) e h = absurd (miss (0 ∷ 1 ∷ 2 ∷ 3 ∷ 4 ∷ 7 ∷ 8 ∷ 9 ∷ 10 ∷ []) 6 tt h)
+      go (Found.Singleton value) e h = absurd (miss (0 ∷ 1 ∷ 2 ∷ 3 ∷ 4 ∷ 7 ∷ 8 ∷ 9 ∷ 10 ∷ 11 ∷ 12 ∷ 13 ∷ []) 5 tt h)
+      go (Found.Union left right) e h = absurd (miss (0 ∷ 1 ∷ 2 ∷ 3 ∷ 4 ∷ 7 ∷ 8 ∷ 9 ∷ 10 ∷ 11 ∷ 12 ∷ 13 ∷ []) 6 tt h)
       go (Found.Extension kind low) e h = members-other below a place (ap setFound e)
       go (Found.Indexed offset size low high) e h = members-other below a place (ap setFound e)
       go (Found.Made offset size first many) e h = members-other below a place (ap setFound e)
       go Found.Other e h = members-other below a place (ap setFound e)
+      go (Found.Unary op value) e h = members-other below a place (ap setFound e)
+      go (Found.Binary op left right) e h = members-other below a place (ap setFound e)
+      go (Found.Ite condition left right) e h = members-other below a place (ap setFound e)
 
   pub members-one : (below : ℕ) (a b c : List ℕ) (place one r value : ℕ) → found ≡ Found.Singleton value → WritesInside sorts members names ws ts value below a b place one → Offers b c one (0 ∷ []) r →
       WritesMembers sorts members names ws ts i below a c place r

@@ -1,5 +1,6 @@
 -- Document 01, "The listing": what is left where a value was opened: the text of a value without another one in it, or what stands before the fields or the members of the others; and a set closed.
 use mathlib.Core.Path.{_≡_}
+use mathlib.Core.Bool.{false}
 use mathlib.Core.List.{List, _++_}
 use mathlib.Core.Option.{Option}
 use Prim.Native.Nat.{ℕ, suc}

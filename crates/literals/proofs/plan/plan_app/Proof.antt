@@ -16,7 +16,7 @@ use Rattle.sorts.proofs.read_sort.Reads as read-sort-reads
 use Rattle.tables.proofs.clamp.Reads as clamp-reads
 
 returns : tie.Need-returns
-returns c = let a = c .before .before .before .before .before .before .before .args in arm-operator (a .sorts .now) (a .most) (a .names .now) (a .nodes .now) (a .text .now) (a .at) (a .expected) (a .below) (c .before .before .shape-at .result) (c .before .before .shape-at .ensures) (c .enum-told .given .1)
+returns c = let a = c .before .before .before .before .before .before .args in arm-operator (a .sorts .now) (a .most) (a .names .now) (a .nodes .now) (a .text .now) (a .at) (a .expected) (a .below) (c .before .shape-at .result) (c .before .shape-at .ensures) (c .match .keys1)
 
 returns-2 : tie.Need-returns-2
 returns-2 c = let a = c .before .before .before .before .before .before .before .before .before .before .args in arm-none (a .sorts .now) (a .most) (a .names .now) (a .nodes .now) (a .text .now) (a .at) (a .expected) (a .below) (c .before .before .before .before .before .shape-at .result) (c .before .before .before .before .before .shape-at .ensures) _ (c .before .read-sort .result) (c .before .read-sort .ensures) (c .before .before .before .shape .given .1) (c .bare-of .result) (c .bare-of .ensures)
@@ -46,14 +46,13 @@ returns-10 : tie.Need-returns-10
 returns-10 c = let a = c .before .before .before .before .before .before .before .before .before .before .before .args in arm-made (a .sorts .now) (a .most) (a .names .now) (a .nodes .now) (a .text .now) (a .at) (a .expected) (a .below) (c .before .before .before .before .before .before .shape-at .result) (c .before .before .before .before .before .before .shape-at .ensures) _ _ _ _ (c .before .before .before .before .shape9 .given .1) _ (c .before .before .clamp .ensures .holds (a .text .now) refl) (c .plan-made .result) (c .plan-made .ensures)
 
 returns-11 : tie.Need-returns-11
-returns-11 c = let a = c .before .before .before .before .before .before .before .args in arm-other (a .sorts .now) (a .most) (a .names .now) (a .nodes .now) (a .text .now) (a .at) (a .expected) (a .below) (c .before .before .shape-at .result) (c .before .before .shape-at .ensures) (c .enum-told2 .given .1)
+returns-11 c = let a = c .before .before .before .before .before .before .before .args in arm-other (a .sorts .now) (a .most) (a .names .now) (a .nodes .now) (a .text .now) (a .at) (a .expected) (a .below) (c .before .before .shape-at .result) (c .before .before .shape-at .ensures) (c .enum-told .given .1)
 
 pub plan-app-spec : {M : Type 1} → statement M
 plan-app-spec =
     tie.close
     (tie.spec
     (λ c κs. search needs)
-    (λ c. search needs)
     (λ c. search needs)
     (λ c κs. search needs)
     (λ c κs. search needs)
