@@ -18,7 +18,8 @@ pub fn bvnego(width: u64, operand: Pair) -> bool
 {
     let signed = signed_of(width, operand);
     let size = signed.size;
-    leaves(width, !signed.negative, Grown::Fit(size))
+    let turned = !signed.negative;
+    leaves(width, turned, Grown::Fit(size))
 }
 
 // Of unlike signs the sum lies between the two.

@@ -15,7 +15,7 @@ pub struct Signed {
     pub size: Pair,
 }
 
-// The bit that holds the sign.
+// The bit that holds the sign, and 0 where there are no bits.
 fn sign_bit(width: u64) -> u64
     ensures { λ r. ⌜ r ≡ width - 1 ⌝ }
 {

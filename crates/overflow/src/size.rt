@@ -112,7 +112,7 @@ fn added(first: Pair, second: Pair, times: Pair) -> Grown
     sum(first, second)
 }
 
-// Bit by bit of the right number, from the lowest: what has left 128 bits has a bit left to be added for.
+// Bit by bit of the right number, from the lowest: the unit is doubled only where a bit is left above, so what leaves 128 bits is part of the product.
 pub fn product(left: Pair, right: Pair) -> Grown
     ensures { λ r. ⌜ r ≡ grown (value left * value right) ⌝ }
 {
