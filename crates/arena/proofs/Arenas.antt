@@ -89,39 +89,36 @@ module _ (ws ts : List ℕ) where
   root-of (symbol s) i j x y h = ap (rootOf ts) (h .here) ∙ ap symbol (h .written)
   root-of (app us) i j x y s = ap (rootOf ts) (s .here)
 
-  -- a tree that stands where t does has t's root
-  same-root : (t u : Tree) (i j k x y z : ℕ) → stands t ws ts i j x y → stands u ws ts i k x z → filled (bare t) (below u) ≡ u
-  same-root t u i j k x y z s r =
-      ap (λ (v : Tree). filled v (below u)) (sym (root-of t i j x y s) ∙ root-of u i k x z r) ∙ whole u
+  -- a tree that stands where t does has t's root, wherever their texts begin
+  same-root : (t u : Tree) (i j k x y p q : ℕ) → stands t ws ts i j x y → stands u ws ts i k p q → filled (bare t) (below u) ≡ u
+  same-root t u i j k x y p q s r =
+      ap (λ (v : Tree). filled v (below u)) (sym (root-of t i j x y s) ∙ root-of u i k p q r) ∙ whole u
 
   mutual
-    one-tree : (t u : Tree) (i j k x y z : ℕ) → stands t ws ts i j x y → stands u ws ts i k x z → t ≡ u
-    one-tree (bitVec w n) u i j k x y z s r = same-root (bitVec w n) u i j k x y z s r
-    one-tree (numeral n) u i j k x y z s r = same-root (numeral n) u i j k x y z s r
-    one-tree (string s) u i j k x y z h r = same-root (string s) u i j k x y z h r
-    one-tree (symbol s) u i j k x y z h r = same-root (symbol s) u i j k x y z h r
-    one-tree (app us) u i j k x y z s r =
-        let e : app (below u) ≡ u = same-root (app us) u i j k x y z s r in
-        let r′ = subst (λ (v : Tree). stands v ws ts i k x z) (sym e) r in
+    pub one-tree : (t u : Tree) (i j k x y p q : ℕ) → stands t ws ts i j x y → stands u ws ts i k p q → t ≡ u
+    one-tree (bitVec w n) u i j k x y p q s r = same-root (bitVec w n) u i j k x y p q s r
+    one-tree (numeral n) u i j k x y p q s r = same-root (numeral n) u i j k x y p q s r
+    one-tree (string s) u i j k x y p q h r = same-root (string s) u i j k x y p q h r
+    one-tree (symbol s) u i j k x y p q h r = same-root (symbol s) u i j k x y p q h r
+    one-tree (app us) u i j k x y p q s r =
+        let e : app (below u) ≡ u = same-root (app us) u i j k x y p q s r in
+        let r′ = subst (λ (v : Tree). stands v ws ts i k p q) (sym e) r in
         let a = s .here in
         let b = r′ .here in
         let c : count us ≡ count (below u) = cc in
-        ap app (one-list us (below u) (i + 1) j k x y z c (s .children) (r′ .children)) ∙ e
+        ap app (one-list us (below u) (i + 1) j k x y p q c (s .children) (r′ .children)) ∙ e
 
-    one-list : (us vs : Trees) (i j k x y z : ℕ) → count us ≡ count vs → standAll us ws ts i j x y → standAll vs ws ts i k x z → us ≡ vs
-    one-list nil nil i j k x y z c s r = refl
-    one-list nil (cons u vs) i j k x y z c s r = absurd (omega arith)
-    one-list (cons t us) nil i j k x y z c s r = absurd (omega arith)
-    one-list (cons t us) (cons u vs) i j k x y z c s r =
-        let e : t ≡ u = one-tree t u i (s .mid) (r .mid) x (s .off) (r .off) (s .first) (r .first) in
+    one-list : (us vs : Trees) (i j k x y p q : ℕ) → count us ≡ count vs → standAll us ws ts i j x y → standAll vs ws ts i k p q → us ≡ vs
+    one-list nil nil i j k x y p q c s r = refl
+    one-list nil (cons u vs) i j k x y p q c s r = absurd (omega arith)
+    one-list (cons t us) nil i j k x y p q c s r = absurd (omega arith)
+    one-list (cons t us) (cons u vs) i j k x y p q c s r =
+        let e : t ≡ u = one-tree t u i (s .mid) (r .mid) x (s .off) p (r .off) (s .first) (r .first) in
         let m : r .mid ≡ s .mid =
-        stands-after ws ts u i (r .mid) x (r .off) (r .first) ∙ sym (stands-after ws ts t i (s .mid) x (s .off) (s .first)) in
-        let o : r .off ≡ s .off =
-        stands-lays ws ts u i (r .mid) x (r .off) (r .first) .rest ∙ ap (λ (v : Tree). x + length (text v)) (sym e)
-        ∙ sym (stands-lays ws ts t i (s .mid) x (s .off) (s .first) .rest) in
-        let r′ = subst (λ (n : ℕ). standAll vs ws ts (s .mid) k n z) o (subst (λ (n : ℕ). standAll vs ws ts n k (r .off) z) m (r .others)) in
-        ap₂ cons e (one-list us vs (s .mid) j k (s .off) y z (omega arith) (s .others) r′)
+        stands-after ws ts u i (r .mid) p (r .off) (r .first) ∙ sym (stands-after ws ts t i (s .mid) x (s .off) (s .first)) in
+        let r′ = subst (λ (n : ℕ). standAll vs ws ts n k (r .off) q) m (r .others) in
+        ap₂ cons e (one-list us vs (s .mid) j k (s .off) y (r .off) q (omega arith) (s .others) r′)
 
 -- words and a text start with the arena of one tree at most
 pub one-arena : (ws ts : List ℕ) (t u : Tree) → Arena ws ts t → Arena ws ts u → t ≡ u
-one-arena ws ts t u a b = one-tree ws ts t u 0 _ _ 0 _ _ (arena-stands ws ts t a) (arena-stands ws ts u b)
+one-arena ws ts t u a b = one-tree ws ts t u 0 _ _ 0 _ 0 _ (arena-stands ws ts t a) (arena-stands ws ts u b)

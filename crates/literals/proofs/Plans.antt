@@ -107,7 +107,7 @@ module _ (sorts : List ℕ) (most : ℕ) (names ws ts : List ℕ) (i : ℕ) (exp
   Arms l s = appLit (tablesOf l) (λ t. readSort (tablesOf l) below t) (λ e u. read (tablesOf l) below e u) false (expectedOf expected) s
 
   by-arm : (p : Plan) → ((l : Lent) → l .sorts ≡ sorts → l .names ≡ names → length (l .fields) ≡ most → (s : Shape) → Shows ws ts f s → Means (tablesOf l) (l .fields) ws ts expected below p (Arms l s)) → PlansApp sorts most names ws ts i expected below p
-  by-arm p k l s n m us z = k l s n m (shape us) (shown us z)
+  by-arm p k l s n m us z = k l s n m (shape us) (shown .1 us z)
 
   as-arm : (a : Arm) → f ≡ a → (s : Shape) → Shows ws ts f s → Shows ws ts a s
   as-arm a e s g = subst (λ (x : Arm). Shows ws ts x s) e g

@@ -6,6 +6,7 @@ use Prim.Native.Nat.{ℕ, suc, _+_, _*_, _^_, _≤_, _<_, _%_, _/_}
 use lib.Dec.{eqb}
 use lib.ListN.{length}
 use Rattle.arena.specs.Layout.{stride}
+use Rattle.arena.specs.Node.{afterAt}
 use Rattle.arena.specs.Stands.{stands, standAll}
 use Rattle.arena.specs.Text.{textAt}
 use Rattle.arena.specs.Tree.{Tree, Trees, bitVec, numeral, symbol, app, nil, cons, count}
@@ -61,34 +62,63 @@ Shows ws ts (Found.Indexed offset size low high) s = (digits : List ℕ) × (s �
 Shows ws ts (Found.Made offset size first many) s = (f : List ℕ) × (us : Trees) × (s ≡ made f us) × Reads f ts offset size × StandingAll us ws ts first many
 Shows ws ts Found.Other s = s ≡ other
 
--- the shape of the application that stands at the node
+-- the nodes that are handed on, where the arguments stand one after the other from a node on
+abbrev pub Placed : List ℕ → ℕ → Found → Type 0
+Placed ws first Found.Uncovered = Unit {0}
+Placed ws first (Found.AsNone sort) = Unit {0}
+Placed ws first (Found.AsSome sort value) = value ≡ first
+Placed ws first (Found.SomeOf value) = value ≡ first
+Placed ws first (Found.AsEmpty sort) = Unit {0}
+Placed ws first (Found.Singleton value) = value ≡ first
+Placed ws first (Found.Union left right) = (left ≡ first) × (right ≡ afterAt ws first)
+Placed ws first (Found.Extension kind low) = Unit {0}
+Placed ws first (Found.Indexed offset size low high) = Unit {0}
+Placed ws first (Found.Made offset size from many) = from ≡ first
+Placed ws first Found.Other = Unit {0}
+Placed ws first (Found.Unary op value) = value ≡ first
+Placed ws first (Found.Binary op left right) = (left ≡ first) × (right ≡ afterAt ws first)
+Placed ws first (Found.Ite condition left right) = (condition ≡ first) × (left ≡ afterAt ws first) × (right ≡ afterAt ws left)
+
+-- the shape of the application that stands at the node, its arguments behind its head
+abbrev pub ShapeShows : List ℕ → List ℕ → ℕ → Found → Type 0
+ShapeShows ws ts i r = (us : Trees) → Standing (app us) ws ts i → Shows ws ts r (shape us)
+
 abbrev pub ShapeAt : List ℕ → List ℕ → ℕ → Found → Type 0
-ShapeAt ws ts i r = (us : Trees) → Standing (app us) ws ts i → Shows ws ts r (shape us)
+ShapeAt ws ts i r = Placed ws (afterAt ws (i + 1)) r × ShapeShows ws ts i r
 
 -- the shape of a name's application to the arguments that stand from a node on: to any, to one, to two
+abbrev pub AppliedShows : List ℕ → List ℕ → ℕ → ℕ → ℕ → ℕ → Found → Type 0
+AppliedShows ws ts offset size first many r = (f : List ℕ) (us : Trees) → Reads f ts offset size → StandingAll us ws ts first many → Shows ws ts r (applied f us)
+
 abbrev pub AppliedAt : List ℕ → List ℕ → ℕ → ℕ → ℕ → ℕ → Found → Type 0
-AppliedAt ws ts offset size first many r = (f : List ℕ) (us : Trees) → Reads f ts offset size → StandingAll us ws ts first many → Shows ws ts r (applied f us)
+AppliedAt ws ts offset size first many r = Placed ws first r × AppliedShows ws ts offset size first many r
 
 abbrev pub OneAt : (List ℕ → Tree → Shape) → List ℕ → List ℕ → ℕ → ℕ → ℕ → Found → Type 0
-OneAt g ws ts offset size first r = (f : List ℕ) (a : Tree) → Reads f ts offset size → Standing a ws ts first → Shows ws ts r (g f a)
+OneAt g ws ts offset size first r = Placed ws first r × ((f : List ℕ) (a : Tree) → Reads f ts offset size → Standing a ws ts first → Shows ws ts r (g f a))
 
 abbrev pub TwoAt : (List ℕ → Tree → Tree → Shape) → List ℕ → List ℕ → ℕ → ℕ → ℕ → Found → Type 0
 TwoAt g ws ts offset size first r =
-    (f : List ℕ) (a b : Tree) → Reads f ts offset size → StandingAll (cons a (cons b nil)) ws ts first 2 → Shows ws ts r (g f a b)
+    Placed ws first r × ((f : List ℕ) (a b : Tree) → Reads f ts offset size → StandingAll (cons a (cons b nil)) ws ts first 2 → Shows ws ts r (g f a b))
 
 -- the same where the first of the two is a symbol
 abbrev pub IndexAt : List ℕ → List ℕ → ℕ → ℕ → ℕ → ℕ → ℕ → Found → Type 0
 IndexAt ws ts offset size off long first r =
-    (f g : List ℕ) (b : Tree) → Reads f ts offset size → Reads g ts off long → StandingAll (cons (symbol g) (cons b nil)) ws ts first 2 → Shows ws ts r (indexShape f g b)
+    Placed ws first r × ((f g : List ℕ) (b : Tree) → Reads f ts offset size → Reads g ts off long → StandingAll (cons (symbol g) (cons b nil)) ws ts first 2 → Shows ws ts r (indexShape f g b))
 
 -- the shape of an application whose head is one itself, its parts from one node on and the arguments from another
-abbrev pub HeadedAt : List ℕ → List ℕ → ℕ → ℕ → ℕ → ℕ → Found → Type 0
-HeadedAt ws ts inner parts value many r =
+abbrev pub HeadedShows : List ℕ → List ℕ → ℕ → ℕ → ℕ → ℕ → Found → Type 0
+HeadedShows ws ts inner parts value many r =
     (us vs : Trees) → StandingAll us ws ts inner parts → StandingAll vs ws ts value many → Shows ws ts r (headed us vs)
 
+abbrev pub HeadedAt : List ℕ → List ℕ → ℕ → ℕ → ℕ → ℕ → Found → Type 0
+HeadedAt ws ts inner parts value many r = Placed ws value r × HeadedShows ws ts inner parts value many r
+
 -- the shape of the application whose head stands at the node, with so many arguments behind it
+abbrev pub ByHeadShows : List ℕ → List ℕ → ℕ → ℕ → Found → Type 0
+ByHeadShows ws ts i many r = (h : Tree) (us : Trees) → StandingAll (cons h us) ws ts i (suc many) → Shows ws ts r (shape (cons h us))
+
 abbrev pub ByHeadAt : List ℕ → List ℕ → ℕ → ℕ → Found → Type 0
-ByHeadAt ws ts i many r = (h : Tree) (us : Trees) → StandingAll (cons h us) ws ts i (suc many) → Shows ws ts r (shape (cons h us))
+ByHeadAt ws ts i many r = Placed ws (afterAt ws i) r × ByHeadShows ws ts i many r
 
 -- what stands at the node, as far as it is looked at
 abbrev pub WordAt : List ℕ → ℕ → Word → Type 0

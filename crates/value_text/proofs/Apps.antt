@@ -137,7 +137,7 @@ module _ (sorts names ws ts : List ℕ) where
         Shows ws ts f (shape us) → Reads (tablesOf l) below e k (shape us) → (row : ℕ) → HasSort (k .value) Loose (tablesOf l) row → Opens (tablesOf l) ws ts below (k .value) a b o
 
     by-arm : (o : Opened) (f : Found) → found ≡ f → Arm o f → OpensApp sorts names ws ts i a b o
-    by-arm o f e h l p n us s below x k m row hs = h l p n us below x k (subst (λ (y : Found). Shows ws ts y (shape us)) e (at us s)) (app-reads (tablesOf l) below x k us m) row hs
+    by-arm o f e h l p n us s below x k m row hs = h l p n us below x k (subst (λ (y : Found). Shows ws ts y (shape us)) e (at .1 us s)) (app-reads (tablesOf l) below x k us m) row hs
 
     abbrev At : (l : Lent) → ℕ → Option ℕ → Lit → Shape → Type 0
     At l below e k s = Reads (tablesOf l) below e k s

@@ -115,7 +115,7 @@ module _ (sorts members names ws ts : List ℕ) (i : ℕ) (found : Found) (at : 
         let u = set-app (tablesOf l) below e k t vs m h in
         let s′ = subst (λ (x : Tree). Standing x ws ts i) (u .1) s in
         let m′ = subst (λ (x : Tree). read (tablesOf l) (suc below) e x ≡ ok k) (u .1) m in
-        f l g (u .0) e k (at (u .0) s′) (app-reads (tablesOf l) below e k (u .0) m′) vs h row hs
+        f l g (u .0) e k (at .1 (u .0) s′) (app-reads (tablesOf l) below e k (u .0) m′) vs h row hs
 
   members-other : (below : ℕ) (a : List ℕ) (place : ℕ) → setFound found ≡ false → WritesMembers sorts members names ws ts i below a a place place
   members-other below a place h = by-arm below a a place place (λ l g us e k w m vs q row hs.

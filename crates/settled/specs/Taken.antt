@@ -1,0 +1,64 @@
+-- Document 02, R-2, `ite`: the literal that is left of one at a node where each `ite` is its taken branch.
+use mathlib.Core.Path.{_≡_}
+use mathlib.Core.Bool.{Bool, true, false, cond}
+use mathlib.Core.List.{List}
+use mathlib.Core.Option.{Option, none, some}
+use Prim.Native.Nat.{ℕ, _≤_}
+use Rattle.arena.specs.Tree.{Tree, Trees, bitVec, numeral, string, symbol, app}
+use Rattle.tables.specs.Sort.{Tables}
+use Rattle.shapes.specs.Shape.{Shape, uncovered, asNone, asSome, someOf, asEmpty, singleton, union, extension, indexed, made, other, unary, binary, ite, shape}
+use Rattle.shapes.specs.Shows.{Standing}
+use Rattle.sorts.specs.Result.{ok}
+use Rattle.sorts.specs.Sort.{levels}
+use Rattle.means.specs.Literal.{Lit, readWith}
+use Rattle.marks.specs.Mark.{marked}
+use Rattle.settled.specs.declared.branch.Step.{Step}
+use Rattle.settled.specs.Settled.{Settled}
+
+-- an `ite`
+abbrev pub iteShape : Shape → Bool
+iteShape uncovered = false
+iteShape (asNone t) = false
+iteShape (asSome t v) = false
+iteShape (someOf v) = false
+iteShape (asEmpty t) = false
+iteShape (singleton v) = false
+iteShape (union v w) = false
+iteShape (extension x n) = false
+iteShape (indexed digits w) = false
+iteShape (made f us) = false
+iteShape other = false
+iteShape (unary op v) = false
+iteShape (binary op v w) = false
+iteShape (ite c v w) = true
+
+abbrev pub isIte : Tree → Bool
+isIte (bitVec w n) = false
+isIte (numeral n) = false
+isIte (string s) = false
+isIte (symbol s) = false
+isIte (app us) = iteShape (shape us)
+
+-- the literal of a value at a node inside a part of the arena, read with so many levels
+pub record Stood (T : Tables) (ms ws ts : List ℕ) (allow : ℕ) (expected : Option ℕ) (l : Lit) (first end i : ℕ) : Type 0 where
+  pub tree : Tree
+  pub there : Standing tree ws ts i
+  pub behind : first ≤ i
+  pub within : there .next ≤ end
+  pub reads : readWith T true allow expected tree ≡ ok l
+  pub settled : Settled T ms ws ts i (there .next)
+
+pub record Taken (T : Tables) (ms ws ts : List ℕ) (allow : ℕ) (expected : Option ℕ) (l : Lit) (first end i : ℕ) : Type 0 where
+  pub stood : Stood T ms ws ts allow expected l first end i
+  pub plain : isIte (stood .tree) ≡ false
+
+-- at a node that is an `ite` the branch that is taken, by what is remembered
+abbrev pub StepAt : List ℕ → List ℕ → List ℕ → ℕ → Step → Type 0
+StepAt ms ws ts i Step.Stay = (t : Tree) → Standing t ws ts i → isIte t ≡ false
+StepAt ms ws ts i (Step.To j) =
+    (t : Tree) → Standing t ws ts i →
+    (us : Trees) × (c : Tree) × (v : Tree) × (w : Tree) × (left : ℕ) × (right : ℕ) × (t ≡ app us) × (shape us ≡ ite c v w) × Standing v ws ts left × Standing w ws ts right × (j ≡ cond (marked ms i) left right)
+
+abbrev pub TakesAt : List ℕ → List ℕ → List ℕ → ℕ → ℕ → Type 0
+TakesAt ms ws ts i j =
+    (T : Tables) (allow : ℕ) (expected : Option ℕ) (l : Lit) → allow ≤ levels → (first end : ℕ) → Stood T ms ws ts allow expected l first end i → Taken T ms ws ts allow expected l first end j
