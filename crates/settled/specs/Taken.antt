@@ -3,7 +3,7 @@ use mathlib.Core.Path.{_≡_}
 use mathlib.Core.Bool.{Bool, true, false, cond}
 use mathlib.Core.List.{List}
 use mathlib.Core.Option.{Option, none, some}
-use Prim.Native.Nat.{ℕ, _≤_}
+use Prim.Native.Nat.{ℕ, _≤_, _<_}
 use Rattle.arena.specs.Tree.{Tree, Trees, bitVec, numeral, string, symbol, app}
 use Rattle.tables.specs.Sort.{Tables}
 use Rattle.shapes.specs.Shape.{Shape, uncovered, asNone, asSome, someOf, asEmpty, singleton, union, extension, indexed, made, other, unary, binary, ite, shape}
@@ -52,12 +52,21 @@ pub record Taken (T : Tables) (ms ws ts : List ℕ) (allow : ℕ) (expected : Op
   pub stood : Stood T ms ws ts allow expected l first end i
   pub plain : isIte (stood .tree) ≡ false
 
--- at a node that is an `ite` the branch that is taken, by what is remembered
+-- the branch of an `ite` that is taken by what is remembered of it, behind the node and not beyond the end
+pub record Branch (ms ws ts : List ℕ) (t : Tree) (i end j : ℕ) : Type 0 where
+  pub parts : Trees
+  pub condition : Tree
+  pub left : Tree
+  pub right : Tree
+  pub is : t ≡ app parts
+  pub shaped : shape parts ≡ ite condition left right
+  pub there : Standing (cond (marked ms i) left right) ws ts j
+  pub behind : i < j
+  pub within : there .next ≤ end
+
 abbrev pub StepAt : List ℕ → List ℕ → List ℕ → ℕ → Step → Type 0
 StepAt ms ws ts i Step.Stay = (t : Tree) → Standing t ws ts i → isIte t ≡ false
-StepAt ms ws ts i (Step.To j) =
-    (t : Tree) → Standing t ws ts i →
-    (us : Trees) × (c : Tree) × (v : Tree) × (w : Tree) × (left : ℕ) × (right : ℕ) × (t ≡ app us) × (shape us ≡ ite c v w) × Standing v ws ts left × Standing w ws ts right × (j ≡ cond (marked ms i) left right)
+StepAt ms ws ts i (Step.To j) = (t : Tree) (s : Standing t ws ts i) → Branch ms ws ts t i (s .next) j
 
 abbrev pub TakesAt : List ℕ → List ℕ → List ℕ → ℕ → ℕ → Type 0
 TakesAt ms ws ts i j =

@@ -66,9 +66,12 @@ module _ (ws ts : List ℕ) (offset size first : ℕ) where
 
   -- (Decimal b), (Datetime b), (Duration b)
   pub ext-not-wide : (w : Wide) → WideAt ws first w → w ≡ Wide.NotWide → OneAt extShape ws ts offset size first (Found.Made offset size first 1)
-  ext-not-wide w h e = (refl, λ f a r s.
-      let g = subst (λ (x : Wide). WideAt ws first x) e h in
-      shown-as ws ts (Found.Made offset size first 1) (extShape f a) (made f (cons a nil)) (not-wide f a (g ts a s)) (one-made f a r s))
+  ext-not-wide w h e = (
+    refl,
+    λ f a r s.
+        let g = subst (λ (x : Wide). WideAt ws first x) e h in
+        shown-as ws ts (Found.Made offset size first 1) (extShape f a) (made f (cons a nil)) (not-wide f a (g ts a s)) (one-made f a r s),
+  )
 
   module _ (w : Wide) (low : ℕ) (wide : WideAt ws first w) (bits : w ≡ Wide.Bits low) where
     seen : (a : Tree) → Standing a ws ts first → (n : ℕ) × (a ≡ bitVec 64 n) × (low ≡ n % 2 ^ 64)
@@ -84,10 +87,13 @@ module _ (ws ts : List ℕ) (offset size first : ℕ) where
     ext-duration h0 h1 h2 = (tt, λ f a r s. let g = seen a s in (g .0, ap (λ (b : Tree). extShape f b) (g .1) ∙ rw (so f r "Decimal" false h0, so f r "Datetime" false h1, so f r "Duration" true h2), g .2))
 
     pub ext-made : Says (bytes "Decimal") false → Says (bytes "Datetime") false → Says (bytes "Duration") false → OneAt extShape ws ts offset size first (Found.Made offset size first 1)
-    ext-made h0 h1 h2 = (refl, λ f a r s.
-        let g = seen a s in
-        let e : extShape f (bitVec 64 (g .0)) ≡ made f (cons (bitVec 64 (g .0)) nil) = rw (so f r "Decimal" false h0, so f r "Datetime" false h1, so f r "Duration" false h2) in
-        shown-as ws ts (Found.Made offset size first 1) (extShape f a) (made f (cons a nil)) (subst (λ (b : Tree). extShape f b ≡ made f (cons b nil)) (sym (g .1)) e) (one-made f a r s))
+    ext-made h0 h1 h2 = (
+      refl,
+      λ f a r s.
+          let g = seen a s in
+          let e : extShape f (bitVec 64 (g .0)) ≡ made f (cons (bitVec 64 (g .0)) nil) = rw (so f r "Decimal" false h0, so f r "Datetime" false h1, so f r "Duration" false h2) in
+          shown-as ws ts (Found.Made offset size first 1) (extShape f a) (made f (cons a nil)) (subst (λ (b : Tree). extShape f b ≡ made f (cons b nil)) (sym (g .1)) e) (one-made f a r s),
+    )
 
   -- (f a)
   pub one-not : Says (bytes "not") true → OneAt one ws ts offset size first (Found.Unary UnaryOp.Not first)

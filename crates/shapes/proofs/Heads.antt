@@ -136,9 +136,11 @@ module _ (ws ts : List ℕ) (inner parts value many : ℕ) where
       dull (app us) = refl
 
       pub headed-not-as : textIs ts offset size (bytes "as") ≡ false → HeadedAt ws ts inner parts value many Found.Other
-      headed-not-as k =
-          (tt, by-parts Found.Other (λ a b t v p s. let g = first-word a b t p in
-          subst (λ (x : Tree). someShape x b t v ≡ other) (sym (g .1)) (rw (said-so ts offset size (g .0) (g .2) (bytes "as") false k) (dull b))))
+      headed-not-as k = (
+        tt,
+        by-parts Found.Other (λ a b t v p s. let g = first-word a b t p in
+            subst (λ (x : Tree). someShape x b t v ≡ other) (sym (g .1)) (rw (said-so ts offset size (g .0) (g .2) (bytes "as") false k) (dull b))),
+      )
 
       module _ (as-word : textIs ts offset size (bytes "as") ≡ true) (second : ℕ) (here : second ≡ afterAt ws inner) where
         behind : (a b t : Tree) → StandingAll (cons a (cons b (cons t nil))) ws ts inner 3 → StandingAll (cons b (cons t nil)) ws ts second 2
@@ -146,9 +148,11 @@ module _ (ws ts : List ℕ) (inner parts value many : ℕ) where
 
         pub headed-second : (u : Word) → WordAt ws second u → u ≡ Word.NoSymbol → HeadedAt ws ts inner parts value many Found.Other
         headed-second u m d =
-            let n = subst (λ (x : Word). WordAt ws second x) d m in
-            (tt, by-parts Found.Other (λ a b t v p s. let g = first-word a b t p in
-            subst (λ (x : Tree). someShape x b t v ≡ other) (sym (g .1)) (not-symbol b _ _ (n ts b (first-of ws ts b (cons t nil) second 2 (behind a b t p))))))
+            let n = subst (λ (x : Word). WordAt ws second x) d m in (
+              tt,
+              by-parts Found.Other (λ a b t v p s. let g = first-word a b t p in
+                  subst (λ (x : Tree). someShape x b t v ≡ other) (sym (g .1)) (not-symbol b _ _ (n ts b (first-of ws ts b (cons t nil) second 2 (behind a b t p))))),
+            )
 
         module _ (u : Word) (off long : ℕ) (m : WordAt ws second u) (d : u ≡ Word.Symbol long off) where
           second-word : (a b t : Tree) → StandingAll (cons a (cons b (cons t nil))) ws ts inner 3 → (g : List ℕ) × (b ≡ symbol g) × Reads g ts off long
@@ -165,9 +169,11 @@ module _ (ws ts : List ℕ) (inner parts value many : ℕ) where
           headed-not-some k = (tt, by-parts Found.Other (λ a b t v p s. some-is false k a b t v p))
 
           pub headed-some : textIs ts off long (bytes "some") ≡ true → (third : ℕ) → third ≡ afterAt ws second → HeadedAt ws ts inner parts value many (Found.AsSome third value)
-          headed-some k third z =
-              (refl, by-parts (Found.AsSome third value)
-              (λ a b t v p s. (t, v, some-is true k a b t v p, first-of ws ts t nil third 1 (others-of ws ts b (cons t nil) second 2 (behind a b t p) third 1 z refl), s)))
+          headed-some k third z = (
+            refl,
+            by-parts (Found.AsSome third value)
+                (λ a b t v p s. (t, v, some-is true k a b t v p, first-of ws ts t nil third 1 (others-of ws ts b (cons t nil) second 2 (behind a b t p) third 1 z refl), s)),
+          )
 
 -- the head, and the arguments behind it
 module _ (ws ts : List ℕ) (i many : ℕ) where
@@ -194,8 +200,8 @@ module _ (ws ts : List ℕ) (i many : ℕ) where
   by-symbol size offset e q k = (
     subst (λ (n : ℕ). Placed ws n q) (after-of ws i e) (k .0),
     λ h us s.
-    let g = symbol-there ws i size offset e ts h (head-stands h us s) in
-    subst (λ (x : Tree). Shows ws ts q (shape (cons x us))) (sym (g .1)) (k .1 (g .0) us (g .2) (behind-head h us s (i + 1) (after-of ws i e))),
+        let g = symbol-there ws i size offset e ts h (head-stands h us s) in
+        subst (λ (x : Tree). Shows ws ts q (shape (cons x us))) (sym (g .1)) (k .1 (g .0) us (g .2) (behind-head h us s (i + 1) (after-of ws i e))),
   )
 
   list-shows : (parts end : ℕ) → nodeAt ws i ≡ App parts end → (q : Found) → HeadedShows ws ts (i + 1) parts end many q → ByHeadShows ws ts i many q

@@ -82,10 +82,13 @@ module _ (ws ts : List ℕ) (offset size first : ℕ) where
 
   module _ (off long second : ℕ) (here : second ≡ afterAt ws first) where
     pub index-other : (w : Index) → IndexOf ws second w → w ≡ Index.NoNumeral → IndexAt ws ts offset size off long first (Found.Made offset size first 2)
-    index-other w h e = (refl, λ f g b r q s.
-        let n = subst (λ (x : Index). IndexOf ws second x) e h in
-        shown-as ws ts (Found.Made offset size first 2) (indexShape f g b) (made f (cons (symbol g) (cons b nil)))
-        (not-numeral b _ _ (n ts b (second-of ws ts first second here (symbol g) b s))) (two-made f (symbol g) b r s))
+    index-other w h e = (
+      refl,
+      λ f g b r q s.
+          let n = subst (λ (x : Index). IndexOf ws second x) e h in
+          shown-as ws ts (Found.Made offset size first 2) (indexShape f g b) (made f (cons (symbol g) (cons b nil)))
+          (not-numeral b _ _ (n ts b (second-of ws ts first second here (symbol g) b s))) (two-made f (symbol g) b r s),
+    )
 
     module _ (w : Index) (low high : ℕ) (h : IndexOf ws second w) (e : w ≡ Index.Numeral low high) where
       number : (a b : Tree) → StandingAll (cons a (cons b nil)) ws ts first 2 → b ≡ numeral (low + high * 2 ^ 64)
@@ -95,32 +98,44 @@ module _ (ws ts : List ℕ) (offset size first : ℕ) where
       Named f g b = made f (cons (symbol g) (cons b nil))
 
       pub index-short : long < 2 → IndexAt ws ts offset size off long first (Found.Made offset size first 2)
-      index-short l = (refl, λ f g b r q s.
-          let m = q .long in
-          let n = numeral (low + high * 2 ^ 64) in
-          let same : indexShape f g n ≡ Named f g n = bv-short g (Named f g n) (λ digits. indexed digits (low + high * 2 ^ 64)) (omega arith) in
-          shown-as ws ts (Found.Made offset size first 2) (indexShape f g b) (Named f g b)
-          (subst (λ (x : Tree). indexShape f g x ≡ Named f g x) (sym (number (symbol g) b s)) same) (two-made f (symbol g) b r s))
+      index-short l = (
+        refl,
+        λ f g b r q s.
+            let m = q .long in
+            let n = numeral (low + high * 2 ^ 64) in
+            let same : indexShape f g n ≡ Named f g n = bv-short g (Named f g n) (λ digits. indexed digits (low + high * 2 ^ 64)) (omega arith) in
+            shown-as ws ts (Found.Made offset size first 2) (indexShape f g b) (Named f g b)
+            (subst (λ (x : Tree). indexShape f g x ≡ Named f g x) (sym (number (symbol g) b s)) same) (two-made f (symbol g) b r s),
+      )
 
       pub index-other-name : 2 ≤ long → textIs ts off 2 (bytes "bv") ≡ false → IndexAt ws ts offset size off long first (Found.Made offset size first 2)
-      index-other-name l t = (refl, λ f g b r q s.
-          let n = numeral (low + high * 2 ^ 64) in
-          let same : indexShape f g n ≡ Named f g n = starts-bv ts off long g q l (Named f g n) (λ digits. indexed digits (low + high * 2 ^ 64)) false t in
-          shown-as ws ts (Found.Made offset size first 2) (indexShape f g b) (Named f g b)
-          (subst (λ (x : Tree). indexShape f g x ≡ Named f g x) (sym (number (symbol g) b s)) same) (two-made f (symbol g) b r s))
+      index-other-name l t = (
+        refl,
+        λ f g b r q s.
+            let n = numeral (low + high * 2 ^ 64) in
+            let same : indexShape f g n ≡ Named f g n = starts-bv ts off long g q l (Named f g n) (λ digits. indexed digits (low + high * 2 ^ 64)) false t in
+            shown-as ws ts (Found.Made offset size first 2) (indexShape f g b) (Named f g b)
+            (subst (λ (x : Tree). indexShape f g x ≡ Named f g x) (sym (number (symbol g) b s)) same) (two-made f (symbol g) b r s),
+      )
 
       pub index-bv : 2 ≤ long → textIs ts off 2 (bytes "bv") ≡ true → IndexAt ws ts offset size off long first (Found.Indexed (off + 2) (long - 2) low high)
-      index-bv l t = (tt, λ f g b r q s.
-          let n = numeral (low + high * 2 ^ 64) in
-          let same : indexShape f g n ≡ indexed (textAt ts (off + 2) (long - 2)) (low + high * 2 ^ 64) =
-          starts-bv ts off long g q l (Named f g n) (λ digits. indexed digits (low + high * 2 ^ 64)) true t in
-          (textAt ts (off + 2) (long - 2), ap (λ (x : Tree). indexShape f g x) (number (symbol g) b s) ∙ same, others-read ts off long g q l))
+      index-bv l t = (
+        tt,
+        λ f g b r q s.
+            let n = numeral (low + high * 2 ^ 64) in
+            let same : indexShape f g n ≡ indexed (textAt ts (off + 2) (long - 2)) (low + high * 2 ^ 64) =
+            starts-bv ts off long g q l (Named f g n) (λ digits. indexed digits (low + high * 2 ^ 64)) true t in
+            (textAt ts (off + 2) (long - 2), ap (λ (x : Tree). indexShape f g x) (number (symbol g) b s) ∙ same, others-read ts off long g q l),
+      )
 
   pub pair-other : (w : Word) → WordAt ws first w → w ≡ Word.NoSymbol → TwoAt pairShape ws ts offset size first (Found.Made offset size first 2)
-  pair-other w h e = (refl, λ f a b r s.
-      let n = subst (λ (x : Word). WordAt ws first x) e h in
-      shown-as ws ts (Found.Made offset size first 2) (pairShape f a b) (made f (cons a (cons b nil)))
-      (not-symbol a _ _ (n ts a (first-of ws ts a (cons b nil) first 2 s))) (two-made f a b r s))
+  pair-other w h e = (
+    refl,
+    λ f a b r s.
+        let n = subst (λ (x : Word). WordAt ws first x) e h in
+        shown-as ws ts (Found.Made offset size first 2) (pairShape f a b) (made f (cons a (cons b nil)))
+        (not-symbol a _ _ (n ts a (first-of ws ts a (cons b nil) first 2 s))) (two-made f a b r s),
+  )
 
   module _ (w : Word) (off long : ℕ) (h : WordAt ws first w) (e : w ≡ Word.Symbol long off) where
     so : (f : List ℕ) → Reads f ts offset size → (name : List ℕ) (t : Bool) → textIs ts offset size name ≡ t → sameText f name ≡ t
@@ -132,10 +147,13 @@ module _ (ws ts : List ℕ) (offset size first : ℕ) where
     -- as for a symbol, so for what stands there
     by-symbol : (q : Found) → Placed ws first q → ((f g : List ℕ) (b : Tree) → Reads f ts offset size → Reads g ts off long → StandingAll (cons (symbol g) (cons b nil)) ws ts first 2 → Shows ws ts q (wordShape f g b)) →
         TwoAt pairShape ws ts offset size first q
-    by-symbol q p k = (p, λ f a b r s.
-        let g = seen-word ws first w h ts long off e a (first-of ws ts a (cons b nil) first 2 s) in
-        subst (λ (x : Tree). Shows ws ts q (pairShape f x b)) (sym (g .1))
-        (k f (g .0) b r (g .2) (subst (λ (x : Tree). StandingAll (cons x (cons b nil)) ws ts first 2) (g .1) s)))
+    by-symbol q p k = (
+      p,
+      λ f a b r s.
+          let g = seen-word ws first w h ts long off e a (first-of ws ts a (cons b nil) first 2 s) in
+          subst (λ (x : Tree). Shows ws ts q (pairShape f x b)) (sym (g .1))
+          (k f (g .0) b r (g .2) (subst (λ (x : Tree). StandingAll (cons x (cons b nil)) ws ts first 2) (g .1) s)),
+    )
 
     pub pair-index : textIs ts offset size (bytes "_") ≡ true → (q : Found) → IndexAt ws ts offset size off long first q → TwoAt pairShape ws ts offset size first q
     pair-index t q k = by-symbol q (k .0) (λ f g b r u s. shown-as ws ts q (wordShape f g b) (indexShape f g b) (word-index f g b (said-name ts offset size f r (bytes "_") t)) (k .1 f g b r u s))

@@ -1,3 +1,5 @@
+use mathlib.Core.Path.{refl, sym, _∙_}
+use Rattle.settled.proofs.Steps.{step-atom, step-other, step-to}
 use borrow.Author.Needs.{needs}
 use Rattle.settled.proofs.branch.step_at.Statement.{statement}
 use Rattle.settled.proofs.branch.step_at.Tie as tie
@@ -20,7 +22,7 @@ enum-told-2 c = search needs
 
 -- src/branch.rt:20:9
 returns : tie.Need-returns
-returns c = ?
+returns c = let a = c .before .before .before .before .before .before .args in step-atom (a .marks .now) (a .nodes .now) (a .text .now) (a .at) _ (c .before .before .list-at .ensures) (c .enum-told2 .given .1)
 
 -- src/branch.rt:22:9
 shape-at-requires : tie.Need-shape-at-requires
@@ -32,7 +34,7 @@ enum-known-shape c = search needs
 
 -- src/branch.rt:29:9
 returns-2 : tie.Need-returns-2
-returns-2 c = ?
+returns-2 c = let a = c .before .before .before .before .before .before .before .before .args in step-other (a .marks .now) (a .nodes .now) (a .text .now) (a .at) (c .before .before .before .before .list-at .result) (c .before .before .before .before .list-at .ensures) (c .before .shape-at .result) (c .before .shape-at .ensures) (c .match2 .keys2)
 
 -- src/branch.rt:31:8
 marked-requires : tie.Need-marked-requires
@@ -40,11 +42,11 @@ marked-requires c κs = search needs
 
 -- src/branch.rt:32:9
 returns-3 : tie.Need-returns-3
-returns-3 c = ?
+returns-3 c = let a = c .before .before .before .before .before .before .before .before .before .before .before .before .args in step-to (a .marks .now) (a .nodes .now) (a .text .now) (a .at) _ (c .before .before .before .before .before .before .before .before .list-at .ensures) _ (c .before .before .before .before .before .shape-at .ensures) _ (c .before .before .before .before .before .before .enum-told .given .1) _ _ _ (c .before .before .before .shape .given .1) _ (sym (c .if1 .taken) ∙ c .before .marked .ensures) _ refl
 
 -- src/branch.rt:15:1
 returns-4 : tie.Need-returns-4
-returns-4 c = ?
+returns-4 c = let a = c .before .before .before .before .before .before .before .before .before .before .before .before .args in step-to (a .marks .now) (a .nodes .now) (a .text .now) (a .at) _ (c .before .before .before .before .before .before .before .before .list-at .ensures) _ (c .before .before .before .before .before .shape-at .ensures) _ (c .before .before .before .before .before .before .enum-told .given .1) _ _ _ (c .before .before .before .shape .given .1) _ (sym (c .if1 .left) ∙ c .before .marked .ensures) _ refl
 
 pub step-at-spec : {M : Type 1} → statement M
 step-at-spec =
