@@ -1,4 +1,4 @@
--- Numbers of 128 bits without signs, in the code's steps: the lowest bits, what is left up to 2 ^ 128, one less, and sums.
+-- Numbers of 128 bits without signs, in the code's steps: what is left up to 2 ^ 128, one less, and sums.
 -- Assumes nothing.
 use mathlib.Core.Path.{_≡_, refl, sym, ap, ap₂, _∙_, subst}
 use Prim.Native.Nat.{ℕ, _+_, _*_, _-_, _/_, _%_, _^_, _<_, _≤_}
@@ -10,33 +10,6 @@ use Rattle.words.specs.declared.pair.Grown.the-variants.{Fit, Over}
 use Rattle.words.specs.Pair.{value, grown}
 use Rattle.words.proofs.Numbers.{value-fits, too-large, fitting, pair-is, pair-value, grown-fit, grown-over}
 use Rattle.words.proofs.Extends.{unit-is}
-
--- the code's power of two
-pub unit-some : (k : ℕ) → k < 64 → 0 < 1 * 2 ^ k % 2 ^ 64
-unit-some k h = subst (λ (n : ℕ). 0 < n) (sym (unit-is k h)) (pow-pos k)
-
--- the lowest bits of a number of two words
-module _ (low high w : ℕ) (l : low < 2 ^ 64) where
-  pub bits-all : high < 2 ^ 64 → 128 ≤ w → low + high * 2 ^ 64 ≡ (low + high * 2 ^ 64) % 2 ^ w
-  bits-all h k = sym (mod-eq-of-lt (lt-of-lt-of-le (value-fits low high l h) (pow-mono k)))
-
-  pub bits-high : 64 ≤ w → w < 128 → low + high % (1 * 2 ^ (w - 64) % 2 ^ 64) * 2 ^ 64 ≡ (low + high * 2 ^ 64) % 2 ^ w
-  bits-high k j =
-      let q : (low + high * 2 ^ 64) / 2 ^ 64 ≡ high = omega arith in
-      let m : (low + high * 2 ^ 64) % 2 ^ 64 ≡ low = omega arith in
-      let e : w ≡ w - 64 + 64 = omega arith in
-      ap (λ (p : ℕ). low + high % p * 2 ^ 64) (unit-is (w - 64) (omega arith))
-      ∙ add-comm low (high % 2 ^ (w - 64) * 2 ^ 64)
-      ∙ sym (ap (λ (p : ℕ). (low + high * 2 ^ 64) % 2 ^ p) e ∙ mod-pow-add (low + high * 2 ^ 64) (w - 64) 64
-      ∙ ap₂ (λ (x y : ℕ). x % 2 ^ (w - 64) * 2 ^ 64 + y) q m)
-
-  pub bits-low : w < 64 → low % (1 * 2 ^ w % 2 ^ 64) + 0 * 2 ^ 64 ≡ (low + high * 2 ^ 64) % 2 ^ w
-  bits-low k =
-      let m : (low + high * 2 ^ 64) % 2 ^ 64 ≡ low = omega arith in
-      let e : 64 - w + w ≡ 64 = omega arith in
-      let z : low % 2 ^ w + 0 * 2 ^ 64 ≡ low % 2 ^ w = omega arith in
-      ap (λ (p : ℕ). low % p + 0 * 2 ^ 64) (unit-is w k) ∙ z
-      ∙ sym (sym (mod-mod-pow (low + high * 2 ^ 64) (64 - w) w) ∙ ap (λ (p : ℕ). (low + high * 2 ^ 64) % 2 ^ p % 2 ^ w) e ∙ ap (λ (x : ℕ). x % 2 ^ w) m)
 
 -- two numbers of two words, word by word
 apart : (a b c d : ℕ) → a + b * 2 ^ 64 + (c + d * 2 ^ 64) ≡ (a + c) + (b + d) * 2 ^ 64

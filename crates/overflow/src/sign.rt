@@ -1,9 +1,9 @@
 // Whole numbers by sign and size.
-use crate::size::low_bits;
 use crate::size::opposite;
 use crate::size::predecessor;
 use words::Grown;
 use words::Pair;
+use words::low_bits;
 ghost use mathlib.Core.Path.{_≡_};
 ghost use Prim.Native.Nat.{_-_};
 ghost use Rattle.words.specs.Pair.{value};

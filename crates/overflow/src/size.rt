@@ -10,25 +10,6 @@ const ONES: u64 = 18446744073709551615;
 // 2^63: what the lowest bit of the high word is worth in the low word, once both are halved.
 const TOP: u64 = 9223372036854775808;
 
-// The number that the lowest bits are, so many of them.
-pub fn low_bits(number: Pair, width: u64) -> Pair
-    ensures { λ r. ⌜ value r ≡ value number % 2 ^ width ⌝ }
-{
-    if 128 <= width {
-        return number;
-    }
-    if 64 <= width {
-        return Pair {
-            low: number.low,
-            high: number.high % (1u64 << (width - 64)),
-        };
-    }
-    Pair {
-        low: number.low % (1u64 << width),
-        high: 0,
-    }
-}
-
 // What is left up to 2^128, of a number that is not 0.
 pub fn opposite(number: Pair) -> Pair
     ensures { λ r. ⌜ (0 < value number → value r + value number ≡ 2 ^ 128) ⌝ }

@@ -1,5 +1,4 @@
 // Values without another one in them.
-use crate::hex::low_bits;
 use crate::hex::write_digits;
 use crate::hex::write_hex;
 use arena::Node;
@@ -18,6 +17,7 @@ use tables::clamp;
 use tables::find_member;
 use tables::word;
 use words::Pair;
+use words::low_bits;
 use words::Parsed;
 ghost use mathlib.Core.Path.{_≡_};
 ghost use mathlib.Core.Bool.{_||_};

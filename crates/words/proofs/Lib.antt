@@ -8,3 +8,4 @@ pub mod WordRuns
 pub mod Extends
 pub mod Signs
 pub mod LowWords
+pub mod LowBits

@@ -5,25 +5,14 @@ use Rattle.marks.proofs.cleared.Tie as tie
 use Rattle.marks.proofs.cleared.Reads as reads
 use Rattle.marks.proofs.cleared.Lts as lts
 
--- src/lib.rt:27:9
-shr-if1 : tie.Need-shr-if1
-shr-if1 c = search needs
-
--- src/lib.rt:28:9
 returns : tie.Need-returns
 returns c = clear-already (c .before .args .word) (c .before .args .bit) (c .if1 .taken)
 
--- src/lib.rt:30:13
-shl-result : tie.Need-shl-result
-shl-result c = search needs
-
--- src/lib.rt:30:5
 sub-result : tie.Need-sub-result
 sub-result c = unit-within (c .before .args .word) (c .before .args .bit) (c .before .pre) (c .if1 .left)
 
--- src/lib.rt:23:1
 returns-2 : tie.Need-returns-2
 returns-2 c = unit-taken (c .before .args .word) (c .before .args .bit) (c .before .pre) (c .if1 .left)
 
 pub cleared-spec : {M : Type 1} → statement M
-cleared-spec = tie.close (tie.spec shr-if1 returns shl-result sub-result returns-2)
+cleared-spec = tie.close (tie.spec (λ c. search needs) returns (λ c. search needs) sub-result returns-2)

@@ -8,7 +8,7 @@ use Rattle.overflow.proofs.sign.signed_of.Tie as tie
 use Rattle.overflow.proofs.sign.signed_of.Reads as reads
 use Rattle.overflow.proofs.sign.signed_of.Lts as lts
 use Rattle.overflow.proofs.sign.sign_bit.Reads as sign-bit-reads
-use Rattle.overflow.proofs.size.low_bits.Reads as low-bits-reads
+use Rattle.words.proofs.low_bits.Reads as low-bits-reads
 use Rattle.overflow.proofs.size.opposite.Reads as opposite-reads
 use Rattle.words.proofs.pair.Pair.reaches.Reads as reaches-reads
 use Rattle.words.proofs.pair.Pair.sign_extend.Reads as sign-extend-reads

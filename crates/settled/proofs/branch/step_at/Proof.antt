@@ -9,42 +9,15 @@ use Rattle.marks.proofs.marked.Reads as marked-reads
 use Rattle.shapes.proofs.list_at.Reads as list-at-reads
 use Rattle.shapes.proofs.shape_at.Reads as shape-at-reads
 
--- src/branch.rt:18:9
-list-at-requires : tie.Need-list-at-requires
-list-at-requires c κs = search needs
-
-enum-told : tie.Need-enum-told
-enum-told c = search needs
-
--- src/branch.rt:20:9
-enum-told-2 : tie.Need-enum-told-2
-enum-told-2 c = search needs
-
--- src/branch.rt:20:9
 returns : tie.Need-returns
 returns c = let a = c .before .before .before .before .before .before .args in step-atom (a .marks .now) (a .nodes .now) (a .text .now) (a .at) _ (c .before .before .list-at .ensures) (c .enum-told2 .given .1)
 
--- src/branch.rt:22:9
-shape-at-requires : tie.Need-shape-at-requires
-shape-at-requires c κs = search needs
-
--- src/branch.rt:25:9
-enum-known-shape : tie.Need-enum-known-shape
-enum-known-shape c = search needs
-
--- src/branch.rt:29:9
 returns-2 : tie.Need-returns-2
 returns-2 c = let a = c .before .before .before .before .before .before .before .before .args in step-other (a .marks .now) (a .nodes .now) (a .text .now) (a .at) (c .before .before .before .before .list-at .result) (c .before .before .before .before .list-at .ensures) (c .before .shape-at .result) (c .before .shape-at .ensures) (c .match2 .keys2)
 
--- src/branch.rt:31:8
-marked-requires : tie.Need-marked-requires
-marked-requires c κs = search needs
-
--- src/branch.rt:32:9
 returns-3 : tie.Need-returns-3
 returns-3 c = let a = c .before .before .before .before .before .before .before .before .before .before .before .before .args in step-to (a .marks .now) (a .nodes .now) (a .text .now) (a .at) _ (c .before .before .before .before .before .before .before .before .list-at .ensures) _ (c .before .before .before .before .before .shape-at .ensures) _ (c .before .before .before .before .before .before .enum-told .given .1) _ _ _ (c .before .before .before .shape .given .1) _ (sym (c .if1 .taken) ∙ c .before .marked .ensures) _ refl
 
--- src/branch.rt:15:1
 returns-4 : tie.Need-returns-4
 returns-4 c = let a = c .before .before .before .before .before .before .before .before .before .before .before .before .args in step-to (a .marks .now) (a .nodes .now) (a .text .now) (a .at) _ (c .before .before .before .before .before .before .before .before .list-at .ensures) _ (c .before .before .before .before .before .shape-at .ensures) _ (c .before .before .before .before .before .before .enum-told .given .1) _ _ _ (c .before .before .before .shape .given .1) _ (sym (c .if1 .left) ∙ c .before .marked .ensures) _ refl
 
@@ -52,13 +25,13 @@ pub step-at-spec : {M : Type 1} → statement M
 step-at-spec =
     tie.close
     (tie.spec
-    list-at-requires
-    enum-told
-    enum-told-2
+    (λ c κs. search needs)
+    (λ c. search needs)
+    (λ c. search needs)
     returns
-    shape-at-requires
-    enum-known-shape
+    (λ c κs. search needs)
+    (λ c. search needs)
     returns-2
-    marked-requires
+    (λ c κs. search needs)
     returns-3
     returns-4)

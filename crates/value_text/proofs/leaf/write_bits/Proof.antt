@@ -5,7 +5,7 @@ use Rattle.value_text.proofs.leaf.write_bits.Tie as tie
 use Rattle.value_text.proofs.leaf.write_bits.Reads as reads
 use Rattle.value_text.proofs.leaf.write_bits.Lts as lts
 use Rattle.literals.proofs.hex_width.Reads as hex-width-reads
-use Rattle.value_text.proofs.hex.low_bits.Reads as low-bits-reads
+use Rattle.words.proofs.low_bits.Reads as low-bits-reads
 use Rattle.value_text.proofs.hex.write_digits.Reads as write-digits-reads
 use Rattle.value_text.proofs.leaf.write_head.Reads as write-head-reads
 

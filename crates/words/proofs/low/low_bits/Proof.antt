@@ -1,11 +1,11 @@
-use Rattle.overflow.proofs.Sizes.{unit-some, bits-all, bits-high, bits-low}
+use Rattle.words.proofs.LowBits.{unit-some, bits-all, bits-high, bits-low}
 use Prim.Native.Nat.{_-_}
 use native.Mathlib.Omega.{arith}
 use borrow.Author.Needs.{needs}
-use Rattle.overflow.proofs.size.low_bits.Statement.{statement}
-use Rattle.overflow.proofs.size.low_bits.Tie as tie
-use Rattle.overflow.proofs.size.low_bits.Reads as reads
-use Rattle.overflow.proofs.size.low_bits.Lts as lts
+use Rattle.words.proofs.low.low_bits.Statement.{statement}
+use Rattle.words.proofs.low.low_bits.Tie as tie
+use Rattle.words.proofs.low.low_bits.Reads as reads
+use Rattle.words.proofs.low.low_bits.Lts as lts
 
 returns : tie.Need-returns
 returns c = bits-all (c .before .args .number .low) (c .before .args .number .high) (c .before .args .width) (search needs) (search needs) (c .if1 .taken)
