@@ -20,7 +20,7 @@ use Rattle.values.specs.Value.{Value, vBool, vBits}
 use Rattle.means.specs.Literal.{readWith}
 use Rattle.values.specs.Equal.{equal}
 use Rattle.demand.specs.Mention.{unbarred, mentions}
-use Rattle.demand.specs.Meaning.{meaning}
+use Rattle.demand.specs.Meaning.{meaningWith, meaning}
 
 abbrev pub list : List Tree → Trees
 list [] = nil
@@ -54,5 +54,5 @@ examples :
     ∷ means "a" (vBool true) (of (word "ite" ∷ word "a" ∷ word "true" ∷ word "b" ∷ []))
     ∷ []
     ≡ some (vBool false) ∷ some (vBool false) ∷ some (vBool true) ∷ some (vBool true) ∷ some (vBool true) ∷ some (vBool false) ∷ none ∷ none ∷ none ∷ []
-unfolding find at worth from all parsed sameText sortRow memberRow shape _>>=_ unless normal readWith equal unbarred mentions meaning ℕ-discrete
+unfolding find at worth from all parsed sameText sortRow memberRow shape _>>=_ unless normal readWith equal unbarred mentions meaningWith ℕ-discrete
 examples = refl
