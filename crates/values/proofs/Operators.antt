@@ -7,11 +7,9 @@ use Prim.Native.Nat.{ℕ, _≤_}
 use native.Mathlib.Omega.{arith}
 use lib.Dec.{eqb, leb}
 use lib.IntN.{ℤ}
-use borrow.Author.Tests.{leb-true, eqb-true}
+use borrow.Author.Tests.{leb-true}
 use Rattle.ground.specs.Options.{over}
 use Rattle.ground.proofs.Tests.{by-test}
-use Rattle.overflow.specs.Overflow.{overflows}
-use Rattle.words.specs.Extension.{signed}
 use Rattle.values.specs.Holds.{truthOf}
 use Rattle.values.specs.Normal.{normal}
 use Rattle.values.specs.Operators.{negated, either, chosen, onBits, bvnego, leaving}
