@@ -24,7 +24,7 @@ abbrev pub valueOf : Result Lit → Option Value
 valueOf (ok l) = some (normal (l .value))
 valueOf (refused r) = none
 
--- SMT-LIB's `ite`, `=` and `or` of two: each means something only where each of its parts does
+-- an operator of two, and `ite`: each means something only where each of its parts does
 abbrev pub both : (Value → Value → Option Value) → Option Value → Option Value → Option Value
 both rule a b = over a (λ v. over b (λ w. rule v w))
 
@@ -46,7 +46,7 @@ iteOf (h ∷ c ∷ a ∷ []) e = none
 iteOf (h ∷ c ∷ a ∷ b ∷ []) e = choice (c none) (a e) (b e)
 iteOf (h ∷ c ∷ a ∷ b ∷ d ∷ ms) e = none
 
--- of one operand, of two, of which nothing is expected
+-- R-2: of one operand, of two, of which nothing is expected; with another count of them no meaning
 abbrev pub oneOf : (Value → Option Value) → List Meant → Option Value
 oneOf rule [] = none
 oneOf rule (h ∷ []) = none
@@ -64,7 +64,7 @@ abbrev pub orOf : List Meant → Option Value
 orOf [] = none
 orOf (h ∷ ms) = anyOf ms
 
--- R-2's operators among them
+-- SMT-LIB's operators: document 01's three, and R-2's
 abbrev pub operated : List ℕ → List Meant → Option ℕ → Option Value → Option Value
 operated word ms e else =
     cond (is word "ite") (iteOf ms e)
