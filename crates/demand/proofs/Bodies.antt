@@ -24,7 +24,7 @@ use Rattle.model.specs.Model.{Table, armOf, tableOf, push, readChain, readTests
 use Rattle.values.specs.Equal.{decided, equal}
 use Rattle.values.specs.Operators.{either, equals}
 use Rattle.demand.specs.Mention.{unbarred}
-use Rattle.demand.specs.Meaning.{Meant, both, choice, anyOf, meaning, meanings}
+use Rattle.demand.specs.Meaning.{Meant, both, choice, anyOf, meaningWith, meaning, meanings}
 use Rattle.values.proofs.Decisions.{turned}
 use Rattle.demand.proofs.Looks.{firstHit, Give}
 
@@ -34,11 +34,11 @@ module _ (T : Tables) (x : List ℕ) (v : Value) (L : (t : Tree) (e : Option ℕ
   tested m = decided (equal (normal (m .value)) v)
 
   argument-means : meaning (symbol x) T x v none ≡ some v
-  unfolding meaning
+  unfolding meaningWith
   argument-means = rw (same-refl (unbarred x)) refl
 
   equal-at : (a b : Tree) → meaning (app (cons (symbol (bytes "=")) (cons a (cons b nil)))) T x v none ≡ both (λ y z. some (equals y z)) (meaning a T x v none) (meaning b T x v none)
-  unfolding meaning sameText
+  unfolding meaningWith sameText
   equal-at a b = refl
 
   test-means : (test k : Tree) (m : Lit) → TestView x test k → read T levels none k ≡ ok m → meaning test T x v none ≡ some (vBool (tested m))
@@ -61,7 +61,7 @@ module _ (T : Tables) (x : List ℕ) (v : Value) (L : (t : Tree) (e : Option ℕ
     pub given : firstHit (t .arms) (normal (t .«else»)) v ≡ vBool hit
 
   no-hit : AnyHit nil (tableOf [] (vBool false))
-  unfolding meaning normal
+  unfolding meaningWith normal
   no-hit = record { hit = false; meant = refl; given = refl }
 
   hit-more : (h k : Bool) → cond h (vBool true) (vBool k) ≡ vBool (h || k)
@@ -70,7 +70,7 @@ module _ (T : Tables) (x : List ℕ) (v : Value) (L : (t : Tree) (e : Option ℕ
 
   one-hit : (test : Tree) (us : Trees) (m : Lit) (t : Table) → meaning test T x v none ≡ some (vBool (tested m)) → AnyHit us t →
       AnyHit (cons test us) (push (armOf (m .value) (vBool true)) t)
-  unfolding meaning normal
+  unfolding meaningWith normal
   one-hit test us m t e h =
       record {
         hit = tested m || h .hit;
@@ -107,7 +107,7 @@ module _ (T : Tables) (x : List ℕ) (v : Value) (L : (t : Tree) (e : Option ℕ
         subst (Found t) (ok-same (p .1)) (L t (some result) (w .got) (w .first))
 
     ite-at : (test value rest : Tree) → meaning (ite test value rest) T x v (some result) ≡ choice (meaning test T x v none) (meaning value T x v (some result)) (meaning rest T x v (some result))
-    unfolding meaning sameText
+    unfolding meaningWith sameText
     ite-at test value rest = refl
 
     chosen-hit : (h : Bool) (y z : Value) → choice (some (vBool h)) (some y) (some z) ≡ some (cond h y z)
@@ -134,7 +134,7 @@ module _ (T : Tables) (x : List ℕ) (v : Value) (L : (t : Tree) (e : Option ℕ
     chain-means t = chain-by Meets end-meets arm-meets t
 
     or-at : (us : Trees) (e : Option ℕ) → meaning (app (cons (symbol (bytes "or")) us)) T x v e ≡ anyOf (meanings us T x v)
-    unfolding meaning sameText
+    unfolding meaningWith sameText
     or-at us e = refl
 
     pub body-first : (body : Tree) (table : Table) → readBody T x argument result body ≡ ok table → Found body table

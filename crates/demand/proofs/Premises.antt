@@ -35,7 +35,7 @@ use Rattle.model.specs.Listing.{settledTable}
 use Rattle.demand.specs.Examples.{of, word}
 use Rattle.values.specs.Equal.{equal}
 use Rattle.demand.specs.Mention.{unbarred, mentions}
-use Rattle.demand.specs.Meaning.{meaning}
+use Rattle.demand.specs.Meaning.{meaningWith, meaning}
 use Rattle.demand.specs.Lookup.{firstOf, lookup}
 use Rattle.demand.specs.Premise.{apart, noTwo}
 use Rattle.demand.specs.Demand.{Sorted}
@@ -106,7 +106,7 @@ bodies :
     ∷ record { tablesRight = true; nameApart = false; keysOnce = true; given = some (vEntity 1 (bytes "y")); meant = none }
     ∷ record { tablesRight = false; nameApart = true; keysOnce = true; given = some (vEntity 1 (bytes "y")); meant = none }
     ∷ []
-unfolding lawful sortsRight all distinct any find at oneSymbol inSymbol classOf utf8 octets kept keptWords sameText before insert arranged sortRow namedSort memberRow shape sortShape _>>=_ unless readSort normal text readWith chain tests key readChain readTests equal unbarred mentions meaning firstOf apart noTwo
+unfolding lawful sortsRight all distinct any find at oneSymbol inSymbol classOf utf8 octets kept keptWords sameText before insert arranged sortRow namedSort memberRow shape sortShape _>>=_ unless readSort normal text readWith chain tests key readChain readTests equal unbarred mentions meaningWith firstOf apart noTwo
 bodies = refl
 
 -- a model of one command, and what it defines

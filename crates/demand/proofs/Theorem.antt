@@ -60,7 +60,7 @@ module _ (T : Tables) (rules : lawful T ≡ true) where
 
     table-means : Octets (b .term) → apart T (b .argument) ≡ true → noTwo T f b ≡ true → meaning (b .term) T (b .argument) v (some (f .result)) ≡ some (lookup (settledTable t) v)
     table-means o name two =
-        body-first T (b .argument) v (literal-means T rules (b .argument) name v) (f .argument) (f .result) (b .term) t accepted
+        body-first T (b .argument) v (literal-means T rules (b .argument) name v _) (f .argument) (f .result) (b .term) t accepted
         ∙ ap some (sym (
         lookup-arranged (λ u. Sorted T (f .argument) u) (λ u w h k e. tells Ascending Ascending T u w (f .argument) h k e) (t .arms) (normal (t .«else»)) v
         (every-settled T (f .argument) (λ a. a .«when») (λ a. refl) (t .arms) (fits o .keys))

@@ -1,2 +1,3 @@
 pub mod Literal
 pub mod Samples
+pub mod Worked
