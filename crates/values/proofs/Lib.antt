@@ -11,6 +11,7 @@ pub mod Plains
 pub mod Lengths
 pub mod Normals
 pub mod Sets
+pub mod Compares
 pub mod Unions
 pub mod Members
 pub mod Samples
