@@ -1,7 +1,7 @@
--- What is read with an allowance is read alike with more.
+-- What is read with an allowance is read alike with more, and with operators worked out.
 -- Assumes nothing.
-use mathlib.Core.Path.{_≡_}
-use mathlib.Core.Bool.{Bool, true, false}
+use mathlib.Core.Path.{_≡_, refl, sym}
+use mathlib.Core.Bool.{Bool, true, false, true≢false}
 use mathlib.Core.List.{List, [], _∷_}
 use mathlib.Core.Option.{Option, none, some}
 use Prim.Native.Nat.{ℕ, zero, suc}
@@ -58,25 +58,25 @@ module _ (T : Tables) (sort sort′ : Tree → Result ℕ) (more-sort : (t : Tre
     deeper-row row (some (recordOf name fs)) us l e =
         tested _ UnmatchedRecordType _ _ l e (λ k. onwards _ _ _ _ l k (λ vs. deeper-fields fs us vs) (λ vs h. h))
 
-    deeper-app : (o : Bool) (e : Option ℕ) (s : Shape) (l : Lit) → appLit T sort lit o e s ≡ ok l → appLit T sort′ lit′ o e s ≡ ok l
-    deeper-app true e (unary op v) l m = onwards _ _ _ _ l m (λ j. more-lit none v j) (λ j h. h)
-    deeper-app false e (unary op v) l m = refuses m
-    deeper-app true e (binary op v w) l m = onwards _ _ _ _ l m (λ j. more-lit none v j) (λ j k. onwards _ _ _ _ l k (λ i. more-lit none w i) (λ i h. h))
-    deeper-app false e (binary op v w) l m = refuses m
-    deeper-app true e (ite c v w) l m =
-        onwards _ _ _ _ l m (λ j. more-lit none c j) (λ j k. onwards _ _ _ _ l k (λ i. more-lit e v i) (λ i k. onwards _ _ _ _ l k (λ i. more-lit e w i) (λ i h. h)))
-    deeper-app false e (ite c v w) l m = refuses m
-    deeper-app o e uncovered l m = refuses m
-    deeper-app o e (asNone t) l m = onwards _ _ _ _ l m (λ q. more-sort t q) (λ q k. k)
-    deeper-app o e (asSome t v) l m = onwards _ _ _ _ l m (λ q. more-sort t q) (λ q k. onwards _ _ _ _ l k (λ j. more-lit _ v j) (λ j h. h))
-    deeper-app o e (someOf v) l m = onwards _ _ _ _ l m (λ q k. k) (λ q k. onwards _ _ _ _ l k (λ j. more-lit _ v j) (λ j h. h))
-    deeper-app o e (asEmpty t) l m = onwards _ _ _ _ l m (λ q. more-sort t q) (λ q k. k)
-    deeper-app o e (singleton v) l m = onwards _ _ _ _ l m (λ q k. k) (λ q k. onwards _ _ _ _ l k (λ j. more-lit _ v j) (λ j h. h))
-    deeper-app o e (union v w) l m = onwards _ _ _ _ l m (λ j. more-lit e v j) (λ j k. onwards _ _ _ _ l k (λ i. more-lit e w i) (λ i h. h))
-    deeper-app o e (extension x n) l m = m
-    deeper-app o e (indexed digits w) l m = m
-    deeper-app o e (made name us) l m = onwards _ _ _ _ l m (λ row k. k) (λ row k. deeper-row row (at (T .sorts) row) us l k)
-    deeper-app o e other l m = refuses m
+    deeper-app : (o o′ : Bool) → (o ≡ true → o′ ≡ true) → (e : Option ℕ) (s : Shape) (l : Lit) → appLit T sort lit o e s ≡ ok l → appLit T sort′ lit′ o′ e s ≡ ok l
+    deeper-app true o′ h e (unary op v) l m = rw (h refl) (onwards _ _ _ _ l m (λ j. more-lit none v j) (λ j h. h))
+    deeper-app false o′ h e (unary op v) l m = refuses m
+    deeper-app true o′ h e (binary op v w) l m = rw (h refl) (onwards _ _ _ _ l m (λ j. more-lit none v j) (λ j k. onwards _ _ _ _ l k (λ i. more-lit none w i) (λ i h. h)))
+    deeper-app false o′ h e (binary op v w) l m = refuses m
+    deeper-app true o′ h e (ite c v w) l m =
+        rw (h refl) (onwards _ _ _ _ l m (λ j. more-lit none c j) (λ j k. onwards _ _ _ _ l k (λ i. more-lit e v i) (λ i k. onwards _ _ _ _ l k (λ i. more-lit e w i) (λ i h. h))))
+    deeper-app false o′ h e (ite c v w) l m = refuses m
+    deeper-app o o′ h e uncovered l m = refuses m
+    deeper-app o o′ h e (asNone t) l m = onwards _ _ _ _ l m (λ q. more-sort t q) (λ q k. k)
+    deeper-app o o′ h e (asSome t v) l m = onwards _ _ _ _ l m (λ q. more-sort t q) (λ q k. onwards _ _ _ _ l k (λ j. more-lit _ v j) (λ j h. h))
+    deeper-app o o′ h e (someOf v) l m = onwards _ _ _ _ l m (λ q k. k) (λ q k. onwards _ _ _ _ l k (λ j. more-lit _ v j) (λ j h. h))
+    deeper-app o o′ h e (asEmpty t) l m = onwards _ _ _ _ l m (λ q. more-sort t q) (λ q k. k)
+    deeper-app o o′ h e (singleton v) l m = onwards _ _ _ _ l m (λ q k. k) (λ q k. onwards _ _ _ _ l k (λ j. more-lit _ v j) (λ j h. h))
+    deeper-app o o′ h e (union v w) l m = onwards _ _ _ _ l m (λ j. more-lit e v j) (λ j k. onwards _ _ _ _ l k (λ i. more-lit e w i) (λ i h. h))
+    deeper-app o o′ h e (extension x n) l m = m
+    deeper-app o o′ h e (indexed digits w) l m = m
+    deeper-app o o′ h e (made name us) l m = onwards _ _ _ _ l m (λ row k. k) (λ row k. deeper-row row (at (T .sorts) row) us l k)
+    deeper-app o o′ h e other l m = refuses m
 
 module _ (T : Tables) where
   pub deeper-sort : (allow : ℕ) (t : Tree) (row : ℕ) → readSort T allow t ≡ ok row → readSort T (suc allow) t ≡ ok row
@@ -94,4 +94,16 @@ module _ (T : Tables) where
   deeper o (suc a) e (symbol s) l m = m
   deeper o (suc a) e (app us) l m =
       deeper-app T (λ u. readSort T a u) (λ u. readSort T (suc a) u) (λ u q. deeper-sort a u q)
-      (λ x u. readWith T o a x u) (λ x u. readWith T o (suc a) x u) (λ x u k h. deeper o a x u k h) o e (shape us) l m
+      (λ x u. readWith T o a x u) (λ x u. readWith T o (suc a) x u) (λ x u k h. deeper o a x u k h) o o (λ h. h) e (shape us) l m
+
+  -- and what is read with operators refused, with operators worked out
+  pub worked-too : (o : Bool) (allow : ℕ) (expected : Option ℕ) (t : Tree) (l : Lit) → readWith T false allow expected t ≡ ok l → readWith T o allow expected t ≡ ok l
+  unfolding readWith
+  worked-too o zero e t l m = refuses m
+  worked-too o (suc a) e (bits w n) l m = m
+  worked-too o (suc a) e (numeral n) l m = refuses m
+  worked-too o (suc a) e (quoted s) l m = m
+  worked-too o (suc a) e (symbol s) l m = m
+  worked-too o (suc a) e (app us) l m =
+      deeper-app T (λ u. readSort T a u) (λ u. readSort T a u) (λ u q h. h)
+      (λ x u. readWith T false a x u) (λ x u. readWith T o a x u) (λ x u k h. worked-too o a x u k h) false o (λ h. absurd (true≢false (sym h))) e (shape us) l m
