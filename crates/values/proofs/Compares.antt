@@ -1,14 +1,18 @@
 -- Whether two values are one, found out part by part: leaves by what they hold, options and records by what is inside, sets by their members.
 -- Assumes nothing.
-use mathlib.Core.Path.{_≡_, refl, sym, ap, _∙_}
-use mathlib.Core.Bool.{Bool, true, false, _&&_, _||_, true≢false}
+use mathlib.Core.Path.{_≡_, refl, sym, ap, ap₂, _∙_, subst}
+use mathlib.Core.Bool.{Bool, true, false, not, cond, _&&_, _||_, true≢false}
 use mathlib.Core.List.{List, [], _∷_, List·Memᴰ·head, List·Memᴰ·tail}
 use Prim.Native.Nat.{ℕ}
 use lib.Dec.{eqb}
+use lib.IntN.{ℤ}
 use borrow.Author.Tests.{eq-eqb, eqb-true}
 use Rattle.ground.specs.Lists.{any, all}
 use Rattle.ground.proofs.Tests.{by-test, both-left, both-right}
 use Rattle.order.specs.Every.{Among}
+use Rattle.arena.specs.Text.{sameText}
+use Rattle.arena.proofs.Texts.{same-equal, same-refl}
+use Rattle.tables.specs.Sort.{Ext}
 use Rattle.values.specs.Equal.{decided, equal}
 use Rattle.values.specs.Normal.{normal, normals}
 use Rattle.values.specs.Plain.{PlainValues}
@@ -148,3 +152,41 @@ form-kept (vRecord r vs) = refl
 
 pub unlike : (v w : Value) → (formOf v ≡ formOf w → ⊥) → false ≡ same v w
 unlike v w n = same-by v w false (λ h. absurd (true≢false (sym h))) (λ e. absurd (n (sym (form-kept v) ∙ ap formOf e ∙ form-kept w)))
+
+-- leaves, by what they hold
+bool-one : (a b : Bool) → _≡_ {A = Value} (vBool a) (vBool b) → a ≡ b
+bool-one a b e = cc
+
+pub bools-same : (a b : Bool) → cond a b (not b) ≡ same (vBool a) (vBool b)
+unfolding normal
+bools-same true true = same-by (vBool true) (vBool true) true (λ h. refl) (λ e. refl)
+bools-same true false = same-by (vBool true) (vBool false) false (λ h. absurd (true≢false (sym h))) (λ e. sym (bool-one true false e))
+bools-same false true = same-by (vBool false) (vBool true) false (λ h. absurd (true≢false (sym h))) (λ e. bool-one false true e)
+bools-same false false = same-by (vBool false) (vBool false) true (λ h. refl) (λ e. refl)
+
+pub strings-same : (s t : List ℕ) → sameText s t ≡ same (vString s) (vString t)
+unfolding normal
+strings-same s t = same-by (vString s) (vString t) (sameText s t) (λ h. ap vString (same-equal s t h)) (λ e. let q : s ≡ t = cc in subst (λ (u : List ℕ). sameText s u ≡ true) q (same-refl s))
+
+pub bits-one : (w x n m : ℕ) → (eqb w x && eqb n m) ≡ same (vBits w n) (vBits x m)
+unfolding normal
+bits-one w x n m =
+    same-by (vBits w n) (vBits x m) (eqb w x && eqb n m)
+    (λ h. ap₂ {C = Value} vBits (eqb-true w x (both-left (eqb w x) (eqb n m) h)) (eqb-true n m (both-right (eqb w x) (eqb n m) h)))
+    (λ e. let p : w ≡ x = cc in let q : n ≡ m = cc in both (eq-eqb w x p) (eq-eqb n m q))
+
+pub entities-same : (r q : ℕ) (s t : List ℕ) → (eqb r q && sameText s t) ≡ same (vEntity r s) (vEntity q t)
+unfolding normal
+entities-same r q s t =
+    same-by (vEntity r s) (vEntity q t) (eqb r q && sameText s t)
+    (λ h. ap₂ {C = Value} vEntity (eqb-true r q (both-left (eqb r q) (sameText s t) h)) (same-equal s t (both-right (eqb r q) (sameText s t) h)))
+    (λ e. let p : r ≡ q = cc in let k : s ≡ t = cc in both (eq-eqb r q p) (subst (λ (u : List ℕ). sameText s u ≡ true) k (same-refl s)))
+
+pub nones-same : true ≡ same vNone vNone
+unfolding normal
+nones-same = same-by vNone vNone true (λ h. refl) (λ e. refl)
+
+-- numbers of one kind; of unlike kinds they differ
+pub numbers-same : (e f : Ext) (y z : ℤ) (b : Bool) → (b ≡ true → (e ≡ f) × (y ≡ z)) → ((e ≡ f) × (y ≡ z) → b ≡ true) → b ≡ same (vExt e y) (vExt f z)
+unfolding normal
+numbers-same e f y z b g h = same-by (vExt e y) (vExt f z) b (λ k. ap₂ {C = Value} vExt (g k .0) (g k .1)) (λ k. let p : e ≡ f = cc in let q : y ≡ z = cc in h (p, q))
