@@ -1,6 +1,6 @@
 -- One step to the branch that is taken.
 -- Assumes nothing.
-use mathlib.Core.Path.{_≡_, refl, sym, ap, _∙_, subst}
+use mathlib.Core.Path.{_≡_, refl, sym, ap, ap₂, _∙_, subst}
 use mathlib.Core.Bool.{Bool, true, false, cond, true≢false}
 use mathlib.Core.List.{List, [], _∷_}
 use Prim.Native.Nat.{ℕ, _+_, _≤_, _<_}
@@ -20,7 +20,7 @@ use Rattle.shapes.proofs.shape.Found as FoundType
 use Rattle.well_sorted.proofs.Views.{call3, View, v-unary, v-binary, v-ite, v-uncovered, v-asNone, v-asSome, v-someOf, v-asEmpty, v-singleton, v-union, v-extension, v-indexed, v-made, v-other, view}
 use Rattle.marks.specs.Mark.{marked}
 use Rattle.settled.specs.declared.branch.Step.{Step}
-use Rattle.settled.specs.Taken.{iteShape, isIte, Branch, StepAt}
+use Rattle.settled.specs.Taken.{iteShape, isIte, argument, Branch, StepAt}
 
 -- what has the shape of an `ite` is one
 pub ite-call : (us : Trees) (c v w : Tree) → shape us ≡ ite c v w → us ≡ call3 (bytes "ite") c v w
@@ -133,6 +133,11 @@ module _ (ms ws ts : List ℕ) (i : ℕ) (p : Parts) (parts : PartsAt ws i p) wh
       moved t u k j end s e f h =
           (record { next = s .next; from = s .from; rest = s .rest; there = subst (λ (x : Tree). stands x ws ts j (s .next) (s .from) (s .rest)) e (subst (λ (n : ℕ). stands t ws ts n (s .next) (s .from) (s .rest)) f (s .there)) }, h)
 
+      at-branch : (b : Bool) → b ≡ marked ms i → (j : ℕ) → j ≡ cond b left right → j ≡ cond (marked ms i) (argument ws i 1) (argument ws i 2)
+      at-branch b m j e =
+          let z = placed in
+          e ∙ ap₂ (λ (x y : ℕ). cond b x y) (z .1) (z .2 ∙ ap (λ (n : ℕ). afterAt ws n) (z .1)) ∙ ap (λ (x : Bool). cond x (argument ws i 1) (argument ws i 2)) m
+
       pub step-to : (b : Bool) → b ≡ marked ms i → (j : ℕ) → j ≡ cond b left right → StepAt ms ws ts i (Step.To j)
       step-to b m j e (bitVec w n) s = absurd (true≢false (sym (ap (λ (t : Tree). onApp t false (λ us. true)) (subst (PartsAt ws i) list parts .1 ts (bitVec w n) s .1))))
       step-to b m j e (numeral n) s = absurd (true≢false (sym (ap (λ (t : Tree). onApp t false (λ us. true)) (subst (PartsAt ws i) list parts .1 ts (numeral n) s .1))))
@@ -152,7 +157,7 @@ module _ (ms ws ts : List ℕ) (i : ℕ) (p : Parts) (parts : PartsAt ws i p) wh
               let q′ = h .to-right in
               let r = h .to-end in
               let there = moved v (cond (marked ms i) v w) left j (s .next) (h .at-left) (ap (λ (x : Bool). cond x v w) m) (sym e) (omega arith) in
-              record { parts = us; condition = c; left = v; right = w; is = refl; shaped = d; there = there .0; behind = omega arith; within = there .1 }
+              record { parts = us; condition = c; left = v; right = w; is = refl; shaped = d; there = there .0; placed = at-branch true m j e; behind = omega arith; within = there .1 }
           go false m j e c v w d h =
               let l = longer ws ts c condition (h .at-first) in
               let k = longer ws ts v left (h .at-left) in
@@ -161,4 +166,4 @@ module _ (ms ws ts : List ℕ) (i : ℕ) (p : Parts) (parts : PartsAt ws i p) wh
               let q′ = h .to-right in
               let r = h .to-end in
               let there = moved w (cond (marked ms i) v w) right j (s .next) (h .at-right) (ap (λ (x : Bool). cond x v w) m) (sym e) (omega arith) in
-              record { parts = us; condition = c; left = v; right = w; is = refl; shaped = d; there = there .0; behind = omega arith; within = there .1 }
+              record { parts = us; condition = c; left = v; right = w; is = refl; shaped = d; there = there .0; placed = at-branch false m j e; behind = omega arith; within = there .1 }

@@ -30,7 +30,7 @@ use Rattle.well_sorted.proofs.Deeper.{deeper}
 use Rattle.marks.specs.Mark.{marked}
 use Rattle.settled.specs.declared.branch.Step.{Step}
 use Rattle.settled.specs.Settled.{kept, decision, Settled}
-use Rattle.settled.specs.Taken.{Branch, Stood, Taken, StepAt, TakesAt}
+use Rattle.settled.specs.Taken.{Leads, stays, takes, Branch, Stood, Taken, StepAt, TakesAt}
 
 -- what is read with an allowance is read with any that is greater
 pub raised : (T : Tables) (o : Bool) (d a : ℕ) (e : Option ℕ) (t : Tree) (l : Lit) → readWith T o a e t ≡ ok l → readWith T o (d + a) e t ≡ ok l
@@ -100,39 +100,48 @@ module _ (T : Tables) (ms ws ts : List ℕ) (e : Option ℕ) (l : Lit) (first en
     abbrev At : ℕ → Type 0
     At i = Stood T ms ws ts allow e l first end i
 
-    advance : (i j : ℕ) (h : At i) → Branch ms ws ts (h .tree) i (h .there .next) j → At j
+    advance : (i j : ℕ) (h : At i) → Branch ms ws ts (h .tree) i (h .there .next) j → (k : At j) × Leads T ws (h .tree) i (k .tree) j
     advance i j h b =
         let z = settles allow most (b .parts) (b .condition) (b .left) (b .right) (b .shaped) (subst (λ (t : Tree). readWith T true allow e t ≡ ok l) (b .is) (h .reads)) in
         let n = stands-longer ws ts (h .tree) i (h .there .next) (h .there .from) (h .there .rest) (h .there .there) in
-        let mark : marked ms i ≡ z .truth =
-        h .settled i (omega arith) n (b .parts) (subst (λ (t : Tree). Standing t ws ts i) (b .is) (h .there)) (z .truth) (ap (decision T) (b .shaped) ∙ z .decides) in
+        let d : decision T (shape (b .parts)) ≡ some (z .truth) = ap (decision T) (b .shaped) ∙ z .decides in
+        let mark : marked ms i ≡ z .truth = h .settled i (omega arith) n (b .parts) (subst (λ (t : Tree). Standing t ws ts i) (b .is) (h .there)) (z .truth) d in
         let f = h .behind in
         let g = h .within in
         let p = b .behind in
-        let q = b .within in
-        record {
-          tree = cond (marked ms i) (b .left) (b .right);
-          there = b .there;
-          behind = omega arith;
-          within = omega arith;
-          reads = subst (λ (x : Bool). readWith T true allow e (cond x (b .left) (b .right)) ≡ ok l) (sym mark) (z .reads);
-          settled = λ k x y us s c d. h .settled k (omega arith) (omega arith) us s c d;
-        }
+        let q = b .within in (
+          record {
+            tree = cond (marked ms i) (b .left) (b .right);
+            there = b .there;
+            behind = omega arith;
+            within = omega arith;
+            reads = subst (λ (x : Bool). readWith T true allow e (cond x (b .left) (b .right)) ≡ ok l) (sym mark) (z .reads);
+            settled = λ k x y us s c d. h .settled k (omega arith) (omega arith) us s c d;
+          },
+          subst (λ (t : Tree). Leads T ws t i (cond (marked ms i) (b .left) (b .right)) j) (sym (b .is))
+              (takes (b .condition) (b .left) (b .right) (marked ms i) (b .shaped) (d ∙ ap some (sym mark)) (subst (λ (x : ℕ). Leads T ws (cond (marked ms i) (b .left) (b .right)) x (cond (marked ms i) (b .left) (b .right)) j) (b .placed) stays)),
+        )
+
+-- one way after the other
+leads-then : {T : Tables} {ws : List ℕ} {t u v : Tree} {i j k : ℕ} → Leads T ws t i u j → Leads T ws u j v k → Leads T ws t i v k
+leads-then stays g = g
+leads-then (takes c v w b e d f) g = takes c v w b e d (leads-then f g)
 
 -- as far as the loop has come
 abbrev pub Sofar : List ℕ → List ℕ → List ℕ → ℕ → ℕ → Type 0
 Sofar ms ws ts i place =
-    (T : Tables) (allow : ℕ) (e : Option ℕ) (l : Lit) → allow ≤ levels → (first end : ℕ) → Stood T ms ws ts allow e l first end i → Stood T ms ws ts allow e l first end place
+    (T : Tables) (allow : ℕ) (e : Option ℕ) (l : Lit) → allow ≤ levels → (first end : ℕ) (h : Stood T ms ws ts allow e l first end i) →
+    (k : Stood T ms ws ts allow e l first end place) × Leads T ws (h .tree) i (k .tree) place
 
 module _ (ms ws ts : List ℕ) (i : ℕ) where
   pub sofar-start : Sofar ms ws ts i i
-  sofar-start T allow e l most first end h = h
+  sofar-start T allow e l most first end h = (h, stays)
 
   module _ (place : ℕ) (so : Sofar ms ws ts i place) where
     pub sofar-stay : (r : Step) → r ≡ Step.Stay → StepAt ms ws ts place r → TakesAt ms ws ts i place
     sofar-stay r d k T allow e l most first end h =
         let z = so T allow e l most first end h in
-        record { stood = z; plain = subst (StepAt ms ws ts place) d k (z .tree) (z .there) }
+        (record { stood = z .0; plain = subst (StepAt ms ws ts place) d k (z .0 .tree) (z .0 .there) }, z .1)
 
     module _ (r : Step) (j : ℕ) (d : r ≡ Step.To j) (k : StepAt ms ws ts place r) where
       branch : (T : Tables) (allow : ℕ) (e : Option ℕ) (l : Lit) (first end : ℕ) (z : Stood T ms ws ts allow e l first end place) → Branch ms ws ts (z .tree) place (z .there .next) j
@@ -140,17 +149,18 @@ module _ (ms ws ts : List ℕ) (i : ℕ) where
 
       pub sofar-past : j ≤ place → TakesAt ms ws ts i place
       sofar-past n T allow e l most first end h =
-          let z = so T allow e l most first end h in
+          let z = so T allow e l most first end h .0 in
           let b = branch T allow e l first end z .behind in
           absurd (omega arith)
 
       pub sofar-next : Sofar ms ws ts i j
       sofar-next T allow e l most first end h =
           let z = so T allow e l most first end h in
-          advance T ms ws ts e l first end allow most place j z (branch T allow e l first end z)
+          let a = advance T ms ws ts e l first end allow most place j (z .0) (branch T allow e l first end (z .0)) in
+          (a .0, leads-then (z .1) (a .1))
 
     pub sofar-out : length ws ≤ place → TakesAt ms ws ts i place
     sofar-out n T allow e l most first end h =
-        let z = so T allow e l most first end h in
+        let z = so T allow e l most first end h .0 in
         let k = inside ws ts (z .tree) place (z .there) in
         absurd (omega arith)
