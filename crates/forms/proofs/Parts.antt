@@ -19,7 +19,7 @@ use Rattle.settled.specs.Settled.{Settled}
 use Rattle.settled.specs.Taken.{Stood}
 use Rattle.well_sorted.proofs.Views.{View, v-unary, v-binary, v-ite, v-uncovered, v-asNone, v-asSome, v-someOf, v-asEmpty, v-singleton, v-union, v-extension, v-indexed, v-made, v-other, view}
 
-abbrev Headed : Trees → Trees → Type 0
+abbrev pub Headed : Trees → Trees → Type 0
 Headed us vs = (h : Tree) × (us ≡ cons h vs)
 
 -- the arguments that a shape hands on, behind a head
@@ -29,8 +29,8 @@ Heads us (asNone t) = Unit {0}
 Heads us (asSome t v) = Headed us (cons v nil)
 Heads us (someOf v) = Headed us (cons v nil)
 Heads us (asEmpty t) = Unit {0}
-Heads us (singleton v) = Unit {0}
-Heads us (union v w) = Unit {0}
+Heads us (singleton v) = Headed us (cons v nil)
+Heads us (union v w) = Headed us (cons v (cons w nil))
 Heads us (extension x n) = Unit {0}
 Heads us (indexed digits w) = Unit {0}
 Heads us (made f vs) = Headed us vs
@@ -51,8 +51,8 @@ heads us = go us (shape us) (view us)
     go _ _ v-asSome = (_, refl)
     go _ _ v-someOf = (_, refl)
     go _ _ v-asEmpty = tt
-    go _ _ v-singleton = tt
-    go _ _ v-union = tt
+    go _ _ v-singleton = (_, refl)
+    go _ _ v-union = (_, refl)
     go _ _ v-extension = tt
     go _ _ v-indexed = tt
     go _ _ v-made = (_, refl)

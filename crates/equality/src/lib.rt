@@ -1,0 +1,5 @@
+// Whether two values of an arena are one: leaves by what they hold, options and records part by part, sets by their members.
+mod part;
+
+pub use part::Part;
+pub use part::part_at;
