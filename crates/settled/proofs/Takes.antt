@@ -54,7 +54,7 @@ inside ws ts t i s =
     (λ h. omega arith)
     (λ h. let k = kinds ws ts i t s in let z = ap kind (node-past ws i h) in let y = some-kind t in absurd (omega arith))
 
-module _ (T : Tables) (ms ws ts : List ℕ) (e : Option ℕ) (l : Lit) (first end : ℕ) where
+module _ (T : Tables) (e : Option ℕ) (l : Lit) where
   -- an `ite` that is read: its condition, and the branch that is what it is
   pub record Chosen (a : ℕ) (c v w : Tree) : Type 0 where
     pub on : Lit
@@ -79,6 +79,9 @@ module _ (T : Tables) (ms ws ts : List ℕ) (e : Option ℕ) (l : Lit) (first en
       go true p q f g r i = f ∙ ap ok i
       go false p q f g r i = g ∙ ap ok (ap (λ (n : ℕ). lit n (q .value)) (sym r) ∙ i)
 
+  pub decides-of : (a : ℕ) → a ≤ levels → (c v w : Tree) (k : Chosen a c v w) → decision T (ite c v w) ≡ some (k .truth)
+  decides-of a h c v w k = ap (λ (r : Result Lit). over (kept r) (λ l. truthOf (l .value))) (at-levels T true a none c (k .on) h (k .reads-on)) ∙ ap truthOf (k .is-truth)
+
   -- what it decides, and the branch read with the same allowance
   record Settles (allow : ℕ) (c v w : Tree) : Type 0 where
     truth : Bool
@@ -92,17 +95,18 @@ module _ (T : Tables) (ms ws ts : List ℕ) (e : Option ℕ) (l : Lit) (first en
       let k = chosen-of a us c v w d m in
       record {
         truth = k .truth;
-        decides = ap (λ (r : Result Lit). over (kept r) (λ l. truthOf (l .value))) (at-levels T true a none c (k .on) (omega arith) (k .reads-on)) ∙ ap truthOf (k .is-truth);
+        decides = decides-of a (omega arith) c v w k;
         reads = deeper T true a e (cond (k .truth) v w) l (k .reads);
       }
 
+module _ (T : Tables) (ms ws ts : List ℕ) (e : Option ℕ) (l : Lit) (first end : ℕ) where
   module _ (allow : ℕ) (most : allow ≤ levels) where
     abbrev At : ℕ → Type 0
     At i = Stood T ms ws ts allow e l first end i
 
     advance : (i j : ℕ) (h : At i) → Branch ms ws ts (h .tree) i (h .there .next) j → (k : At j) × Leads T ws (h .tree) i (k .tree) j
     advance i j h b =
-        let z = settles allow most (b .parts) (b .condition) (b .left) (b .right) (b .shaped) (subst (λ (t : Tree). readWith T true allow e t ≡ ok l) (b .is) (h .reads)) in
+        let z = settles T e l allow most (b .parts) (b .condition) (b .left) (b .right) (b .shaped) (subst (λ (t : Tree). readWith T true allow e t ≡ ok l) (b .is) (h .reads)) in
         let n = stands-longer ws ts (h .tree) i (h .there .next) (h .there .from) (h .there .rest) (h .there .there) in
         let d : decision T (shape (b .parts)) ≡ some (z .truth) = ap (decision T) (b .shaped) ∙ z .decides in
         let mark : marked ms i ≡ z .truth = h .settled i (omega arith) n (b .parts) (subst (λ (t : Tree). Standing t ws ts i) (b .is) (h .there)) (z .truth) d in
