@@ -7,50 +7,18 @@ use Rattle.equality.proofs.part.part_at.Lts as lts
 use Rattle.shapes.proofs.list_at.Reads as list-at-reads
 use Rattle.shapes.proofs.shape_at.Reads as shape-at-reads
 
--- src/part.rt:19:9
-list-at-requires : tie.Need-list-at-requires
-list-at-requires c κs = search needs
-
-enum-told : tie.Need-enum-told
-enum-told c = search needs
-
--- src/part.rt:21:9
-enum-told-2 : tie.Need-enum-told-2
-enum-told-2 c = search needs
-
--- src/part.rt:21:9
 returns : tie.Need-returns
 returns c = let a = c .before .before .before .before .before .args in part-atom (a .nodes .now) (a .text .now) (a .at) (c .before .before .list-at .result) (c .before .before .list-at .ensures) (c .enum-told2 .given .1)
 
--- src/part.rt:23:9
-shape-at-requires : tie.Need-shape-at-requires
-shape-at-requires c κs = search needs
-
--- src/part.rt:25:39
-enum-told-3 : tie.Need-enum-told-3
-enum-told-3 c = search needs
-
--- src/part.rt:26:28
-enum-known-shape : tie.Need-enum-known-shape
-enum-known-shape c = search needs
-
--- src/part.rt:27:24
-enum-known-shape-2 : tie.Need-enum-known-shape-2
-enum-known-shape-2 c = search needs
-
--- src/part.rt:16:1
 returns-2 : tie.Need-returns-2
 returns-2 c = let a = c .before .before .before .before .before .before .before .before .args in part-empty (a .nodes .now) (a .text .now) (a .at) (c .before .before .before .before .before .list-at .result) (c .before .before .before .before .before .list-at .ensures) (c .before .before .shape-at .result) (c .before .before .shape-at .ensures) _ (c .enum-told3 .given .1)
 
--- src/part.rt:16:1
 returns-3 : tie.Need-returns-3
 returns-3 c = let a = c .before .before .before .before .before .before .before .before .before .args in part-one (a .nodes .now) (a .text .now) (a .at) (c .before .before .before .before .before .before .list-at .result) (c .before .before .before .before .before .before .list-at .ensures) (c .before .before .before .shape-at .result) (c .before .before .before .shape-at .ensures) _ (c .before .shape .given .1)
 
--- src/part.rt:16:1
 returns-4 : tie.Need-returns-4
 returns-4 c = let a = c .before .before .before .before .before .before .before .before .before .args in part-both (a .nodes .now) (a .text .now) (a .at) (c .before .before .before .before .before .before .list-at .result) (c .before .before .before .before .before .before .list-at .ensures) (c .before .before .before .shape-at .result) (c .before .before .before .shape-at .ensures) _ _ (c .before .shape2 .given .1)
 
--- src/part.rt:16:1
 returns-5 : tie.Need-returns-5
 returns-5 c = let a = c .before .before .before .before .before .before .before .args in part-other (a .nodes .now) (a .text .now) (a .at) (c .before .before .before .before .list-at .result) (c .before .before .before .before .list-at .ensures) (c .before .shape-at .result) (c .before .shape-at .ensures) (c .match2 .keys4)
 
@@ -58,14 +26,14 @@ pub part-at-spec : {M : Type 1} → statement M
 part-at-spec =
     tie.close
     (tie.spec
-    list-at-requires
-    enum-told
-    enum-told-2
+    (λ c κs. search needs)
+    (λ c. search needs)
+    (λ c. search needs)
     returns
-    shape-at-requires
-    enum-told-3
-    enum-known-shape
-    enum-known-shape-2
+    (λ c κs. search needs)
+    (λ c. search needs)
+    (λ c. search needs)
+    (λ c. search needs)
     returns-2
     returns-3
     returns-4
