@@ -13,7 +13,7 @@ use lib.Pow.{pow-mono}
 use borrow.Author.Tests.{leb-false, lt-ltb, ltb-true}
 use Rattle.ground.specs.Options.{over}
 use Rattle.ground.proofs.Tests.{by-test, by-order, both-right}
-use Rattle.refusals.specs.declared.Refusal.the-variants.{IntegerOverflow, ZeroWidthBitVec, UnmatchedType, UnmatchedFieldType, SetUnionNonLiterals}
+use Rattle.refusals.specs.declared.Refusal.the-variants.{IntegerOverflow, ZeroWidthBitVec, UnmatchedType, UnmatchedFieldType}
 use Rattle.words.specs.declared.digits.Radix.{Radix}
 use Rattle.words.specs.Extension.{signed}
 use Rattle.words.specs.Radix.{baseOf}

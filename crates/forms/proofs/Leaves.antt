@@ -4,7 +4,7 @@ use mathlib.Core.Path.{_≡_, refl, sym, ap, ap₂, _∙_, subst}
 use mathlib.Core.Bool.{Bool, true, false, true≢false}
 use mathlib.Core.List.{List, [], _∷_}
 use mathlib.Core.Option.{Option, none, some}
-use Prim.Native.Nat.{ℕ, _+_, _*_, _-_, _%_, _^_, _<_}
+use Prim.Native.Nat.{ℕ, _-_, _%_, _^_}
 use Prim.Native.String.{String}
 use native.Mathlib.Omega.{arith}
 use lib.ListN.{length, getD, take, drop}
@@ -41,7 +41,7 @@ use Rattle.means.specs.Literal.{Lit, unsigned, numbered, litOf, memberLit, atRo
 use Rattle.well_sorted.proofs.Results.{refuses, ok-same, went}
 use Rattle.forms.specs.declared.form.Form.{Form}
 use Rattle.forms.specs.Form.{Says}
-use Rattle.forms.specs.Leaf.{Alone, IndexedForm, EntityForm, MemberForm, WordForm}
+use Rattle.forms.specs.Leaf.{IndexedForm, EntityForm, MemberForm, WordForm}
 
 -- the digits, with a sign or without
 pub unsigned-none : (s : List ℕ) → length s ≡ 0 → s ≡ unsigned s
@@ -55,10 +55,6 @@ unsigned-plus (b ∷ bs) h e = rw (eq-eqb b 43 e) (take-all (length (b ∷ bs) -
 pub unsigned-bare : (s : List ℕ) → (length s ≡ 0 → ⊥) → (getD s 0 0 ≡ 43 → ⊥) → s ≡ unsigned s
 unsigned-bare [] h e = refl
 unsigned-bare (b ∷ bs) h e = rw (ne-eqb b 43 e)
-
--- what a range holds
-pub range-holds : (xs : List ℕ) (first size : ℕ) (range : Range) → Clamps first size (length xs) range → take (range .end - range .start) (drop (range .start) xs) ≡ textAt xs first size
-range-holds xs first size range c = c .holds xs refl
 
 -- (_ bvN W)
 module _ (digits slice : List ℕ) (w : ℕ) (s : slice ≡ digits) (p : Parsed) (e : p ≡ parsed Radix.Decimal (unsigned slice)) where

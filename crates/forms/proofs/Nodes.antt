@@ -17,7 +17,7 @@ use Rattle.tables.specs.Layout.{Lent, tablesOf}
 use Rattle.shapes.specs.Shows.{Standing, Reads}
 use Rattle.sorts.specs.Result.{ok}
 use Rattle.sorts.specs.Sort.{levels}
-use Rattle.values.specs.Value.{vString, vBits}
+use Rattle.values.specs.Value.{vBits}
 use Rattle.means.specs.Literal.{Lit, readWith}
 use Rattle.well_sorted.proofs.Results.{refuses, ok-same, went}
 use Rattle.settled.specs.Settled.{Settled}

@@ -11,7 +11,7 @@ use denote.Enum.Declared.{tagOf}
 use Rattle.ground.specs.Lists.{at}
 use Rattle.refusals.specs.declared.Refusal.the-variants.{UnknownLiteral, UnmatchedRecordType}
 use Rattle.arena.specs.Text.{textAt}
-use Rattle.arena.specs.Tree.{Trees, string as quoted, nil, cons}
+use Rattle.arena.specs.Tree.{Trees, string as quoted, nil}
 use Rattle.tables.specs.declared.find.Found.{Found}
 use Rattle.tables.specs.declared.sort.SortRow.{SortRow}
 use Rattle.tables.specs.Find.{namedSort}

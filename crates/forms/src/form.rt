@@ -1,4 +1,4 @@
-// The value at a node, by what stands there; a node is asked that no branch is left to take from.
+// The value at a node where no branch is left to take, by what stands there.
 use crate::made::made_form;
 use crate::number::indexed_form;
 use crate::word::word_form;

@@ -1,14 +1,12 @@
--- (_ bvN W): the digits of N after its sign, and what each width makes of it.
+-- (_ bvN W): what each width makes of N.
 -- Assumes nothing.
-use mathlib.Core.Path.{_≡_, refl, sym, ap, _∙_, subst}
+use mathlib.Core.Path.{_≡_, sym, ap, _∙_, subst}
 use mathlib.Core.Bool.{true, false}
-use mathlib.Core.List.{List, [], _∷_}
-use Prim.Native.Nat.{ℕ, _+_, _*_, _-_, _^_, _<_, _≤_}
+use mathlib.Core.List.{List}
+use Prim.Native.Nat.{ℕ, _+_, _*_, _^_, _<_, _≤_}
 use native.Mathlib.Omega.{arith}
 use lib.Dec.{leb}
-use lib.ListN.{length, getD, take, drop}
-use lib.Seq.{take-all}
-use borrow.Author.Tests.{eq-eqb, ne-eqb, lt-ltb, le-ltb}
+use borrow.Author.Tests.{lt-ltb, le-ltb}
 use Rattle.refusals.specs.declared.Refusal.{Refusal}
 use Rattle.refusals.specs.declared.Refusal.the-variants.{IntegerOverflow, ZeroWidthBitVec}
 use Rattle.words.specs.declared.digits.Parsed.{Parsed}
@@ -22,19 +20,6 @@ use Rattle.literals.specs.declared.answer.Literal.{Literal}
 use Rattle.means.specs.Literal.{unsigned, numbered, widthLit}
 use Rattle.literals.specs.Answer.{answer}
 use Rattle.literals.specs.Parts.{BitsOf, WidthOf, IndexedOf}
-
--- the digits, with a sign or without
-pub unsigned-none : (s : List ℕ) → length s ≡ 0 → s ≡ unsigned s
-unsigned-none [] h = refl
-unsigned-none (b ∷ bs) h = absurd (omega (arith, h))
-
-pub unsigned-plus : (s : List ℕ) → (length s ≡ 0 → ⊥) → getD s 0 0 ≡ 43 → take (length s - 1) (drop 1 s) ≡ unsigned s
-unsigned-plus [] h e = absurd (h refl)
-unsigned-plus (b ∷ bs) h e = rw (eq-eqb b 43 e) (take-all (length (b ∷ bs) - 1) bs (omega arith))
-
-pub unsigned-bare : (s : List ℕ) → (length s ≡ 0 → ⊥) → (getD s 0 0 ≡ 43 → ⊥) → s ≡ unsigned s
-unsigned-bare [] h e = refl
-unsigned-bare (b ∷ bs) h e = rw (ne-eqb b 43 e)
 
 module _ (sorts : List ℕ) (n low high : ℕ) where
   abbrev AtWidth : Literal → Type 0

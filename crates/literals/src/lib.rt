@@ -11,4 +11,3 @@ pub use answer::plus;
 pub use decode::decode_literal;
 pub use form::Expected;
 pub use leaf::hex_width;
-pub use number::parse_number;

@@ -1,35 +1,15 @@
 // (_ bvN W): N is read first, then W is looked at, then whether it holds N.
 use crate::answer::Literal;
 use crate::leaf::bits_of;
+use forms::parse_number;
 use refusals::Refusal;
 use tables::clamp;
 use words::Pair;
 use words::Parsed;
-use words::Radix;
-use words::parse;
-ghost use mathlib.Core.Path.{_≡_};
 ghost use Prim.Native.Nat.{_+_, _*_, _^_};
-ghost use Rattle.words.specs.declared.digits.Radix.{Radix};
 ghost use Rattle.words.specs.Pair.{value};
-ghost use Rattle.words.specs.Run.{parsed};
 ghost use Rattle.arena.specs.Text.{textAt};
-ghost use Rattle.means.specs.Literal.{unsigned};
 ghost use Rattle.literals.specs.Parts.{WidthOf, IndexedOf};
-
-// The sign that one number may begin with.
-const PLUS: u8 = 43;
-
-pub fn parse_number(digits: &[u8]) -> Parsed
-    ensures { λ r. ⌜ r ≡ parsed Radix.Decimal (unsigned (now (digits .entry))) ⌝ }
-{
-    if digits.len() == 0 {
-        return parse(digits, Radix::Decimal);
-    }
-    if digits[0] == PLUS {
-        return parse(&digits[1..], Radix::Decimal);
-    }
-    parse(digits, Radix::Decimal)
-}
 
 // The first width that cannot be written, and the first that holds every number of 128 bits.
 const WIDE: u64 = 4294967296;

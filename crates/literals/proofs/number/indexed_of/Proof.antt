@@ -11,7 +11,7 @@ use Rattle.literals.proofs.number.indexed_of.Tie as tie
 use Rattle.literals.proofs.number.indexed_of.Reads as reads
 use Rattle.literals.proofs.number.indexed_of.Lts as lts
 use Rattle.literals.proofs.number.at_width.Reads as at-width-reads
-use Rattle.literals.proofs.number.parse_number.Reads as parse-number-reads
+use Rattle.forms.proofs.parse_number.Reads as parse-number-reads
 use Rattle.tables.proofs.clamp.Reads as clamp-reads
 
 returns : tie.Need-returns

@@ -4,7 +4,7 @@ use Rattle.value_text.proofs.leaf.write_indexed.Statement.{statement}
 use Rattle.value_text.proofs.leaf.write_indexed.Tie as tie
 use Rattle.value_text.proofs.leaf.write_indexed.Reads as reads
 use Rattle.value_text.proofs.leaf.write_indexed.Lts as lts
-use Rattle.literals.proofs.parse_number.Reads as parse-number-reads
+use Rattle.forms.proofs.parse_number.Reads as parse-number-reads
 use Rattle.tables.proofs.clamp.Reads as clamp-reads
 use Rattle.value_text.proofs.leaf.write_bits.Reads as write-bits-reads
 
