@@ -82,7 +82,8 @@ def listed():
     models, pairs = operators.vectors(), operators.pairs()
     wrong = [*unlike(models), *unlike(pairs, True), *needing()]
     print(f"listed operators: {len(models)} models, {len(pairs)} replies to get-value and {len(operators.NEEDS)} needs; wrong: {len(wrong)}")
-    print("\n".join(wrong[:SHOWN]))
+    for one in wrong[:SHOWN]:
+        print(one)
     return len(wrong)
 
 

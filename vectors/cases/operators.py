@@ -258,7 +258,8 @@ def vectors():
 
 def pairs():
     """The listed variables as replies to get-value, which have the same answers."""
-    return [(rows, values.as_pairs(model.encode()).decode(), answer) for rows, model, answer in LISTED if " ((a " not in model]
+    found = [*LISTED, *at_levels(), *hostile()]
+    return [(rows, values.as_pairs(model.encode()).decode(), answer) for rows, model, answer in found if " ((a " not in model]
 
 
 DEEP_FORMS = [(opening.encode(), closing.encode()) for opening, closing in FORMS]
