@@ -77,9 +77,14 @@ def needing():
             yield f"{rows}\n  {model}\n  the need is that of {wanted}; found {need}"
 
 
+def all_models():
+    """The vectors, and the operators' tables in every notation, each once."""
+    return list(dict.fromkeys([*operators.vectors(), *operators.worked_tables()]))
+
+
 def listed():
     """The second reading's answers to the listed cases; gives back how many are not the listed ones."""
-    models, pairs = operators.vectors(), operators.pairs()
+    models, pairs = all_models(), operators.pairs()
     wrong = [*unlike(models), *unlike(pairs, True), *needing()]
     print(f"listed operators: {len(models)} models, {len(pairs)} replies to get-value and {len(operators.NEEDS)} needs; wrong: {len(wrong)}")
     for one in wrong[:SHOWN]:
@@ -107,7 +112,7 @@ def by_chance(pool, seed, count):
 def main(pool):
     seed, count = ([int(given) for given in sys.argv[1:]] + [2026, 20_000][len(sys.argv) - 1:])[:2]
     wrong = listed()
-    wrong += printed("listed operators", tallied(cases_of(operators.vectors() + operators.NEEDS), asked), asked)
+    wrong += printed("listed operators", tallied(cases_of(all_models() + operators.NEEDS), asked), asked)
     wrong += printed("listed models and real replies, operators worked out", tallied(list(fixed()), asked), asked)
     found = cases_of(operators.pairs()) + given()
     wrong += printed("images of replies to get-value, operators worked out", tallied(found, asked_of_pairs), asked_of_pairs)

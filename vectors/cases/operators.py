@@ -4,6 +4,8 @@ Answers are in short as in docs/DIFFERENCES.md: a bare number is a refusal, else
 random tables and models with operators wherever a value may stand.
 """
 
+from itertools import product
+
 from cases import models, values, wider
 from cases.known import bodies, bools, variable
 from cases.levels import DEEPEST, SHORT, nested
@@ -201,9 +203,15 @@ def tabulated(width, first, second):
 def worked_tables():
     """Every operator over every pair of values of narrow widths and of those at the edges of others, in each pair of notations."""
     for width in (*EVERY, *EDGED):
-        for first in notations(width):
-            for second in notations(width):
-                yield from tabulated(width, first, second)
+        for pair in product(notations(width), repeat=2):
+            yield from tabulated(width, *pair)
+
+
+def fewer_tables():
+    """The same with one pair of notations for an operator, the next one for the next operator."""
+    for width in (*EVERY, *EDGED):
+        found = [list(tabulated(width, *pair)) for pair in product(notations(width), repeat=2)]
+        yield from (found[place % len(found)][place] for place in range(len(found[0])))
 
 
 # Each operator in each of its places, around a truth value; the vectors' take theirs through `ite`.
@@ -252,8 +260,8 @@ def hostile():
 
 
 def vectors():
-    """All listed cases, those of NEEDS left out, whose answer is of another kind."""
-    return [*LISTED, *worked_tables(), *at_levels(), *hostile()]
+    """What a list of vectors takes; those of NEEDS have answers of another kind."""
+    return [*LISTED, *fewer_tables(), *at_levels(), *hostile()]
 
 
 def pairs():
