@@ -459,8 +459,8 @@ class Model:
         return crate
 
 
-def explanation(case, found, worked=False):
+def explanation(case, found):
     """Why the crate's listing parts from document 01's: the differences that its walk meets, or None where they do not lead to its answer."""
-    model = Model(*(bytes.fromhex(part) for part in case.split(" ")), worked=worked)
+    model = Model(*(bytes.fromhex(part) for part in case.split(" ")))
     crate = model.followed(model.answer())
     return " ".join(sorted(crate.met)) if crate.told in (found, None) else None

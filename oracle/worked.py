@@ -16,9 +16,10 @@ sys.dont_write_bytecode = True
 import walk  # noqa: E402
 from asking import roomy, with_room  # noqa: E402
 from beside import BATCH, WORKERS, Case, Judged, Tally, beside_the_crate, by_the_crate, fixed, kind_of, printed, tallied, unlawful  # noqa: E402
-from cases import listings, operators  # noqa: E402
+from cases import listed as vectors, listings, operators  # noqa: E402
 from confirm import short  # noqa: E402
 from given import fixed as given, image  # noqa: E402
+from lists import told  # noqa: E402
 
 SHOWN = 5
 
@@ -45,13 +46,14 @@ def asked_of_pairs(cases):
     found = asked(images)
     for place, (case, model) in enumerate(zip(cases, images)):
         if not unlawful(case.tables):
-            one, other = (answer_to(*both) for both in ((case, True), (model, False)))
+            one, other = answer_to(case, True), answer_to(model)
             if one != other:
                 found[place] = Judged(f"a reply {one}\nits image {other}\nthe image: {model.reply!r}", one[0])
     return found
 
 
-def answer_to(case, values):
+def answer_to(case, values=False):
+    """The second reading's answer and its need."""
     answer = walk.Model(case.tables, case.reply, values, worked=True).answer()
     return answer.told, answer.need
 
@@ -61,10 +63,10 @@ def cases_of(found):
     return [Case(listings.tables(rows).encode(), reply.encode()) for rows, reply, _ in found]
 
 
-def unlike(found, values=False):
-    """Those of listed cases to which the second reading gives another answer."""
+def unlike(found, rooms="L"):
+    """Those of listed cases to which the second reading gives another answer, in the rooms in which vectors are replayed."""
     for case, (rows, reply, wanted) in zip(cases_of(found), found):
-        got = short(answer_to(case, values)[0])
+        got = short(told(vectors.printed(vectors.case(rooms, case.tables, case.reply), worked=True)))
         if got != wanted:
             yield f"{rows}\n  {reply[:2000]}\n  listed {wanted[:2000]}\n  found  {got[:2000]}"
 
@@ -72,7 +74,7 @@ def unlike(found, values=False):
 def needing():
     """The listed needs that are others."""
     for case, (rows, model, wanted) in zip(cases_of(operators.NEEDS), operators.NEEDS):
-        need = answer_to(case, False)[1]
+        need = answer_to(case)[1]
         if need != len(f"vars=1\nfuns=0\nvar=x\nsort=1\nvalue={wanted}\n"):
             yield f"{rows}\n  {model}\n  the need is that of {wanted}; found {need}"
 
@@ -85,7 +87,7 @@ def all_models():
 def listed():
     """The second reading's answers to the listed cases; gives back how many are not the listed ones."""
     models, pairs = all_models(), operators.pairs()
-    wrong = [*unlike(models), *unlike(pairs, True), *needing()]
+    wrong = [*unlike(models), *unlike(pairs, "l"), *needing()]
     print(f"listed operators: {len(models)} models, {len(pairs)} replies to get-value and {len(operators.NEEDS)} needs; wrong: {len(wrong)}")
     for one in wrong[:SHOWN]:
         print(one)

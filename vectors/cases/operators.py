@@ -329,7 +329,7 @@ class Tables(wider.Tables):
         return found if not self.astray(found) or not self.rng.randrange(4) else super().body(arg, out)
 
     def astray(self, body):
-        while body[:1] == [b"ite"] and self.arg in body[1][1:]:
+        while len(body) == 4 and body[0] == b"ite" and isinstance(body[1], list) and self.arg in body[1]:
             body = body[3]
         return body[:1] == [b"ite"]
 
