@@ -93,13 +93,15 @@ confirm: oracle
 
 # Sets our library beside the Rust: in one process on millions of strings, readings and script lines, then model by model, whole, with
 # counts by answer and by difference met; and the Rust's answers beside a second reading of document 01. Then replies to get-value beside
-# a second reading of document 02's R-1, and beside the Rust as models. SEED may be given; TIMES, for so many times the inputs; COUNT, for
-# so many cases of each kind for the second reading; MODELS, for so many models compared whole; VALUES, for so many replies to get-value.
+# a second reading of document 02's R-1, and beside the Rust as models. Last the second reading of R-2, which our library has not yet,
+# beside the Rust. SEED may be given; TIMES, for so many times the inputs; COUNT, for so many cases of each kind for the second reading;
+# MODELS, for so many models compared whole; VALUES, for so many replies to get-value; WORKED, for so many models and replies of R-2.
 SEED ?= 2026
 TIMES ?= 1
 COUNT ?= 20000
 MODELS ?= 100000
 VALUES ?= 100000
+WORKED ?= 20000
 STACK := 4294967296
 compare: oracle library
 	$(MAKE) -C oracle ours
@@ -107,6 +109,7 @@ compare: oracle library
 	python3 oracle/compare.py $(SEED) $(COUNT)
 	python3 oracle/beside.py $(SEED) $(MODELS)
 	python3 oracle/given.py $(SEED) $(VALUES)
+	python3 oracle/worked.py $(SEED) $(WORKED)
 
 # Times our library, the crate and a plain C reader on the same inputs, in one run, and writes docs/BENCH.md and docs/bench.svg (on Arm
 # docs/BENCH-aarch64.md and docs/bench-aarch64.svg).

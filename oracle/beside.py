@@ -81,14 +81,23 @@ def judged(case, mine, crate):
         return Judged(None if mine == wanted else f"ours {mine}\ndocument 01 {wanted}", refusal, frozenset(["S4"]))
     model = walk.Model(case.tables, case.reply)
     plain = model.answer()
-    kind = "listing" if plain.need is not None else plain.told
+    kind = kind_of(plain)
     if mine != told(plain):
         return Judged(f"ours {mine}\ndocument 01 {told(plain)}", kind)
-    followed = model.followed(plain)
+    return beside_the_crate(model, plain, crate)
+
+
+def kind_of(answer):
+    return "listing" if answer.need is not None else answer.told
+
+
+def beside_the_crate(model, plain, crate):
+    """A model whose answer is `plain`: the crate's answer has to be the one that the differences met lead to."""
+    kind, followed = kind_of(plain), model.followed(plain)
     if followed.told is None:
         return Judged(None, kind, followed.met, "not followed", followed.ended)
     if crate != followed.told:
-        return Judged(f"the crate {crate}\nby the differences met ({' '.join(sorted(followed.met)) or 'none'}) {followed.told}\nours {mine}", kind)
+        return Judged(f"the crate {crate}\nby the differences met ({' '.join(sorted(followed.met)) or 'none'}) {followed.told}\nours {told(plain)}", kind)
     if followed.met and model.answer(followed.met).told != followed.told:
         return Judged(f"the differences met, {' '.join(sorted(followed.met))}, do not lead to the crate's answer {crate}", kind)
     return Judged(None, kind, followed.met, "alike" if crate == plain.told else "apart")

@@ -2,7 +2,7 @@
 """Checks every row of docs/DIFFERENCES.md that gives an input: the crate's answer by asking the oracle, document 01's
 by the second reading (reading.py, walk.py).
 
-Usage: confirm.py [DOCUMENT]
+Usage: confirm.py [DOCUMENT [worked]]     (with `worked` document 02's R-2 is read too)
 A row is `| number | what | tables | input | document 01 | crate | why |`; in a cell `\\|` is a bar. The number's
 letter says what the input is: D, S and E models with tables, T trees, C strings (direct calls), L script lines.
 An input stands between backticks; in those of T, C and L a backslash with `x` and two digits is that byte.
@@ -20,7 +20,7 @@ sys.path.append(str(ROOT / "vectors"))
 from cases.listings import tables  # noqa: E402
 
 KINDS = {"D": "listings", "S": "listings", "E": "listings", "T": "trees", "C": "strings", "L": "lines"}
-READERS = {"listings": walk.listings, "trees": reading.trees, "strings": reading.strings, "lines": reading.lines}
+READERS = {"trees": reading.trees, "strings": reading.strings, "lines": reading.lines}
 SHORT = ("value=", "when=", "then=", "else=")
 
 
@@ -58,14 +58,20 @@ def short(answer):
     return repr(bytes.fromhex(rest))[2:-1] if name == "line" else answer
 
 
+def by_document(mode, one, worked):
+    """The second reading's answer to a case."""
+    return walk.listings(one, worked=worked) if mode == "listings" else READERS[mode](one)
+
+
 def main():
+    worked = sys.argv[2:] == ["worked"]
     document = sys.argv[1] if len(sys.argv) > 1 else ROOT / "docs" / "DIFFERENCES.md"
     found = rows(open(document, encoding="utf-8").read())
     faults = 0
     for row in found:
         mode, one = KINDS[row[0][0]], case(row)
         said = [cell.strip("`") for cell in row[4:6]]
-        seen = [short(READERS[mode](one)), short(answers(mode, [one])[0])]
+        seen = [short(by_document(mode, one, worked)), short(answers(mode, [one])[0])]
         for who, wrote, got in zip(("document 01", "the crate"), said, seen):
             if wrote != got:
                 print(f"{row[0]}: the document says of {who}: {wrote}; found: {got}")

@@ -1,18 +1,16 @@
-"""What the crate works out of operators, where document 01 says 22 (S1 of docs/DIFFERENCES.md): only what comes out as a literal.
+"""Operators in literals: their meaning by document 02's R-2, on values whose sorts fit; and what the crate works out of them as literals,
+where document 01 says 22 (S1 of docs/DIFFERENCES.md).
 
 An operand has a sort and a text; an answer is one of the operands, or a truth value.
 """
 
-TRUE, FALSE = (("bool",), "true"), (("bool",), "false")
+from value import BOOL, known
+
+TRUE, FALSE = (BOOL, "true"), (BOOL, "false")
 
 
 class Beyond(Exception):
     """What is not followed: terms that are no literals, an assertion that fails, addresses."""
-
-
-def known(value):
-    """Literals of one sort with one text are one literal."""
-    return value.sort, value.text
 
 
 def signed(value):
@@ -27,6 +25,31 @@ def passes(value, number):
     """Whether a number is beyond what a vector of that width holds."""
     past = 2 ** (value.sort[1] - 1)
     return not -past <= number < past
+
+
+def is_true(value):
+    return value.text == "true"
+
+
+# R-2's meanings, by name.
+MEANINGS = {
+    b"not": lambda value: not is_true(value),
+    b"or": lambda one, other: is_true(one) or is_true(other),
+    b"=": lambda one, other: one.text == other.text,
+    b"ite": lambda condition, one, other: one if is_true(condition) else other,
+    b"bvnego": lambda value: passes(value, -signed(value)),
+    b"bvsaddo": lambda one, other: passes(one, signed(one) + signed(other)),
+    b"bvsmulo": lambda one, other: passes(one, signed(one) * signed(other)),
+}
+
+
+def fitting(name, sorts):
+    """Whether the operands' sorts are ones that R-2 works on."""
+    if name in (b"not", b"or"):
+        return all(sort == BOOL for sort in sorts)
+    if name == b"ite":
+        return sorts[0] == BOOL and sorts[1] == sorts[2]
+    return all(sort == sorts[0] for sort in sorts) and (name == b"=" or sorts[0][0] == "bitvec")
 
 
 def opposite(value):

@@ -1,4 +1,5 @@
-"""Document 01's model walk and listing, and document 02's R-1, read a second time, in Python, from their words alone.
+"""Document 01's model walk and listing, and document 02's R-1, read a second time, in Python, from their words alone; with `worked`
+document 02's R-2 too, which works out operators.
 
 Beside document 01's rules it knows, one by one, the crate's ways that docs/DIFFERENCES.md lists: with all of
 them taken up its answers have to be the crate's, with none of them they are document 01's. A walk notes which of them it meets.
@@ -6,26 +7,16 @@ them taken up its answers have to be the crate's, with none of them they are doc
 
 from typing import NamedTuple, Optional
 
-from operators import OPERATORS, Beyond
+from factory import FACTORY, Panicked, is_literal
+from operators import MEANINGS, OPERATORS, Beyond, fitting
 from reading import Arena, Refused, answered
+from value import BOOL, Value, in_order, plain, shown, some, truth
 
 DEEPEST = 1023
-BOOL, STRING, ADDRESS = ("bool",), ("string",), ("ipaddr",)
+STRING, ADDRESS = ("string",), ("ipaddr",)
 PLAIN = {b"Bool": BOOL, b"String": STRING, b"Decimal": ("decimal",), b"Datetime": ("datetime",), b"Duration": ("duration",)}
 SIGNED = {b"Decimal": "d", b"Datetime": "t", b"Duration": "u"}
-CRATE = frozenset(["D1", "D2", "D3", "D4", "D5", "D6", "D7", "D8", "S1", "S2", "S3"])
-
-
-class Value(NamedTuple):
-    """A value's sort and text; `kept` is the text with repeated members kept, `members` a set's members as they are written."""
-
-    sort: tuple
-    text: str
-    kept: str
-    members: Optional[tuple] = None
-
-    def told(self, kept):
-        return self.kept if kept else self.text
+CRATE = frozenset(["D1", "D2", "D3", "D4", "D5", "D6", "D7", "D8", "D9", "S1", "S2", "S3"])
 
 
 class Tables:
@@ -107,22 +98,17 @@ def is_app(node, name, count=None):
     return isinstance(node, list) and node[:1] == [(4, name)] and (count is None or len(node) == count)
 
 
-def plain(sort, text):
-    """A value without members inside it."""
-    return Value(sort, text, text)
-
-
 def braces(sort, members):
     """A set of members as they are written, each its text and the one that keeps repeats."""
-    texts = sorted({text for text, _ in members}, key=str.encode)
+    texts = sorted({text for text, _ in members}, key=in_order)
     return Value(sort, "{" + ",".join(texts) + "}", "{" + ",".join(kept for _, kept in members) + "}", members)
 
 
 class Walk:
-    """One walk over a model."""
+    """One walk over a model; `worked` says whether operators are worked out."""
 
-    def __init__(self, tables, ways):
-        self.ways = ways
+    def __init__(self, tables, ways, worked=False):
+        self.ways, self.worked = ways, worked
         self.tables = Tables(tables, ways)
         self.known = set(self.tables.sorts)
         self.vars, self.funs = {}, {}
@@ -226,13 +212,26 @@ class Walk:
     def worked_out(self, node, expected, level):
         """An operator; the branches of `ite` alone are handed an expectation."""
         name = node[0][1]
-        if not self.takes("S1"):
+        covered = self.worked and name in MEANINGS
+        if not covered and not self.takes("S1"):
             raise Refused(22)
-        if name in (b"V4", b"V6"):
+        if name not in MEANINGS:
             raise Beyond
         inner = expected if name == b"ite" else None
-        found = OPERATORS[name, len(node)](*[self.value(part, inner if place else None, level + 1) for place, part in enumerate(node[1:])])
-        return found if isinstance(found, Value) else plain(BOOL, "true" if found else "false")
+        parts = [self.value(part, inner if place else None, level + 1) for place, part in enumerate(node[1:])]
+        found = self.meaning(name, parts) if covered else OPERATORS[name, len(node)](*parts)
+        return found if isinstance(found, Value) else truth(found)
+
+    def meaning(self, name, parts):
+        """What R-2 makes of operands that were all read; a truth value is formed behind their sorts."""
+        if fitting(name, [part.sort for part in parts]) and all(map(is_literal, parts)):
+            found = MEANINGS[name](*parts)
+        elif self.takes("D9"):
+            found = FACTORY[name](*parts)
+        else:
+            raise Refused(16)
+        self.met(found.sort if isinstance(found, Value) else BOOL)
+        return found
 
     @staticmethod
     def inside(kind, expected):
@@ -250,8 +249,9 @@ class Walk:
         return plain(sort, "none") if kind == "option" else braces(sort, ())
 
     def some(self, node, inner, level):
-        value = self.value(node, inner, level + 1)
-        return Value(self.met(("option", value.sort)), f"some({value.text})", f"some({value.kept})")
+        value = some(self.value(node, inner, level + 1))
+        self.met(value.sort)
+        return value
 
     def typed_some(self, node, level):
         sort = self.sort(node[0][2], level + 1)
@@ -264,7 +264,7 @@ class Walk:
         one, other = (self.value(part, expected, level + 1) for part in node[1:])
         if one.sort != other.sort:
             raise Refused(16)
-        if one.members is None:
+        if one.members is None or other.members is None:
             raise Refused(28)
         return braces(one.sort, one.members + other.members)
 
@@ -310,7 +310,7 @@ class Walk:
 
     def body(self, node, arg, sort, out):
         """The arms of a function's body as they are written, and the default."""
-        true, false = plain(BOOL, "true"), plain(BOOL, "false")
+        true, false = truth(True), truth(False)
         if is_app(node, b"=") and self.takes("D4"):
             return [(self.test(node, arg), true)], false
         if is_app(node, b"or"):
@@ -383,7 +383,7 @@ class Walk:
     def settled(arms):
         """The arms in the listing's order; a later one with an equal key replaces an earlier one."""
         last = {(key.sort, key.text): (key, value) for key, value in arms}
-        return sorted(last.values(), key=lambda arm: (arm[0].text.encode(), arm[1].text))
+        return sorted(last.values(), key=lambda arm: (in_order(arm[0].text), in_order(arm[1].text)))
 
     def listing(self, kept=False):
         """The listing, or the text whose length is the need: with repeated members and arms kept."""
@@ -398,20 +398,20 @@ class Walk:
                 for key, value in arms if kept else self.settled(arms):
                     lines += [f"when={key.told(kept)}", f"then={value.told(kept)}"]
                 lines.append(f"else={default.told(kept)}")
-        return "\n".join(lines) + "\n"
+        return shown("\n".join(lines) + "\n")
 
 
-def walked(tables, arena, ways=frozenset(), values=False):
+def walked(tables, arena, ways=frozenset(), values=False, worked=False):
     """The walk over a model, or over a reply to get-value, that has been read."""
-    walk = Walk(tables, ways)
+    walk = Walk(tables, ways, worked)
     walk.run(tree(arena), values)
     return walk
 
 
-def listings(line, ways=frozenset()):
+def listings(line, ways=frozenset(), worked=False):
     """The answer to a case of the oracle's `listings`, by document 01 and the crate's ways taken up."""
     tables, model = (bytes.fromhex(part) for part in line.split(" "))
-    return answered(lambda: "listing=" + walked(tables, Arena(model), ways).listing().encode().hex())
+    return answered(lambda: "listing=" + walked(tables, Arena(model), ways, worked=worked).listing().encode().hex())
 
 
 class Answer(NamedTuple):
@@ -427,8 +427,8 @@ class Answer(NamedTuple):
 class Model:
     """Tables and a reply, a model or one to get-value, read once and walked with one set of ways after the other."""
 
-    def __init__(self, tables, reply, values=False):
-        self.tables, self.values, self.root, self.refusal = tables, values, None, None
+    def __init__(self, tables, reply, values=False, worked=False):
+        self.tables, self.values, self.worked, self.root, self.refusal = tables, values, worked, None, None
         try:
             self.root = tree(Arena(reply))
         except Refused as refusal:
@@ -437,11 +437,11 @@ class Model:
     def answer(self, ways=frozenset()):
         if self.refusal:
             return Answer(self.refusal, None, frozenset(), 0)
-        walk, need = Walk(self.tables, ways), None
+        walk, need = Walk(self.tables, ways, self.worked), None
         try:
             walk.run(self.root, self.values)
             told, need = "listing=" + walk.listing().encode().hex(), len(walk.listing(True).encode())
-        except Refused as refusal:
+        except (Refused, Panicked) as refusal:
             told = str(refusal)
         except Beyond:
             told = None

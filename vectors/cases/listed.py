@@ -42,7 +42,7 @@ def fitting(number, need, room):
         raise reading.Refused(number, need)
 
 
-def walked(rooms, tables, reply, values=False):
+def walked(rooms, tables, reply, values=False, worked=False):
     """The walk, after everything that is refused before it."""
     if max(len(tables), len(reply)) > LONGEST:
         raise reading.Refused(9)
@@ -54,17 +54,17 @@ def walked(rooms, tables, reply, values=False):
     fitting(10, len(arena.nodes), rooms.nodes)
     fitting(11, len(arena.text), rooms.text)
     fitting(12, arena.depth, rooms.depth)
-    return walk.walked(tables, arena, values=values)
+    return walk.walked(tables, arena, values=values, worked=worked)
 
 
-def printed(line):
-    """What is printed for a case."""
+def printed(line, worked=False):
+    """What is printed for a case; `worked` says whether operators are worked out, as document 02's R-2 has them."""
     letter, tables, reply = parts(line)
     try:
         if letter.upper() == NO_WORDS:
             raise reading.Refused(27)
         rooms = ROOMS[letter.upper()]
-        found = walked(rooms, tables, reply, letter.islower())
+        found = walked(rooms, tables, reply, letter.islower(), worked)
         listing, need = (found.listing(kept).encode() for kept in (False, True))
         fitting(26, len(need), rooms.out)
     except reading.Refused as refusal:

@@ -129,7 +129,11 @@ def more(rng, drawn):
 def random_case(rng):
     """Tables and a reply: a pair for each variable and a few more, in any order, half of them damaged once or twice."""
     drawn, strike = rng.choice([(models.Tables, models.damage), (wider.Tables, wider.struck)])
-    drawn = drawn(rng)
+    return reply_of(rng, drawn(rng), strike)
+
+
+def reply_of(rng, drawn, strike):
+    """A reply over tables, as above."""
     told = [[name.encode(), drawn.value(row)] for name, row in drawn.vars] + [more(rng, drawn) for _ in range(rng.randrange(4))]
     rng.shuffle(told)
     told = models.copied(told)

@@ -357,7 +357,11 @@ def random_case(rng):
         return *deep(rng), None
     if pick == 2:
         return *large(rng, rng.randrange(1, 400)), None
-    tables = Tables(rng)
+    return model_of(rng, Tables(rng))
+
+
+def model_of(rng, tables):
+    """A model over tables, as above."""
     model = copied(tables.model())
     for _ in range(rng.choice([0, 0, 0, 1, 1, 2, 3])):
         if model:
