@@ -4,11 +4,11 @@ use mathlib.Core.Path.{_≡_, refl, sym, ap, _∙_, subst}
 use mathlib.Core.Bool.{Bool, true, false, true≢false}
 use mathlib.Core.List.{List}
 use mathlib.Core.Option.{Option, none, some}
-use Prim.Native.Nat.{ℕ, _+_, _/_, _<_, _≤_}
+use Prim.Native.Nat.{ℕ, _+_, _/_, _<_}
 use native.Mathlib.Omega.{arith}
 use Rattle.ground.proofs.Tests.{by-order}
 use Rattle.arena.specs.Node.{nodeAt}
-use Rattle.arena.specs.Tree.{Tree, Trees, symbol, app, nil, cons}
+use Rattle.arena.specs.Tree.{Tree, Trees, symbol, app, cons}
 use Rattle.arena.proofs.Arenas.{one-tree}
 use Rattle.tables.specs.Sort.{Tables}
 use Rattle.shapes.specs.Shape.{Shape, uncovered, asNone, asSome, someOf, asEmpty, singleton, union, extension, indexed, made, other, unary, binary, ite, shape}

@@ -15,18 +15,16 @@ use Rattle.arena.specs.Stands.{stands}
 use Rattle.arena.specs.Tree.{Tree, Trees, app}
 use Rattle.arena.proofs.Layouts.{stands-longer}
 use Rattle.tables.specs.Sort.{Tables}
-use Rattle.shapes.specs.Shape.{Shape, shape}
+use Rattle.shapes.specs.Shape.{shape}
 use Rattle.shapes.specs.Shows.{Standing}
 use Rattle.sorts.specs.Result.{ok}
 use Rattle.sorts.specs.Sort.{levels}
-use Rattle.values.specs.Value.{Value, Values, vSet}
+use Rattle.values.specs.Value.{Values, vSet}
 use Rattle.means.specs.Literal.{Lit, readWith}
 use Rattle.well_sorted.proofs.Results.{refuses}
 use Rattle.marks.specs.Mark.{marked, remembered}
-use Rattle.marks.specs.Kept.{Kept}
 use Rattle.marks.proofs.Marks.{here-remembered, kept-none, kept-then, kept-wider, kept-remembered}
-use Rattle.settled.specs.Settled.{Settled}
-use Rattle.settled.specs.Taken.{argument, Stood, Taken, TakesAt}
+use Rattle.settled.specs.Taken.{Stood, TakesAt}
 use Rattle.equality.specs.declared.part.Part.{Part}
 use Rattle.equality.specs.Part.{PartSays, PartAt}
 use Rattle.equality.specs.Singles.{singlesOf, singles, noted}

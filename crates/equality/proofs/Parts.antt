@@ -10,7 +10,7 @@ use types.Run.{OneOf, miss}
 use denote.Enum.Declared.{tagOf}
 use Rattle.arena.specs.Node.{afterAt}
 use Rattle.arena.specs.Stands.{stands}
-use Rattle.arena.specs.Tree.{Tree, Trees, bitVec as bits, numeral, string as quoted, symbol, app, nil, cons}
+use Rattle.arena.specs.Tree.{Tree, Trees, bitVec as bits, string as quoted, symbol, app, nil, cons}
 use Rattle.arena.proofs.Layouts.{stands-after, stands-longer}
 use Rattle.refusals.specs.declared.Refusal.the-variants.{UnmatchedType, UnmatchedRecordType, SetUnionNonLiterals}
 use Rattle.ground.specs.Lists.{at}
@@ -18,7 +18,7 @@ use Rattle.words.specs.Extension.{signed}
 use Rattle.tables.specs.Sort.{Sort, bool, string, ext, bitVec, optionOf, setOf, entityOf, recordOf, Tables}
 use Rattle.shapes.specs.declared.look.Parts.{Parts}
 use Rattle.shapes.specs.declared.shape.Found.{Found}
-use Rattle.shapes.specs.Shape.{Shape, uncovered, asNone, asSome, someOf, asEmpty, singleton, union, extension, indexed, made, other, unary, binary, ite, onApp, shape}
+use Rattle.shapes.specs.Shape.{Shape, uncovered, asNone, asSome, someOf, asEmpty, singleton, union, extension, indexed, made, other, unary, binary, ite, shape}
 use Rattle.shapes.specs.Shows.{Standing, Shows, ShapeAt, PartsAt}
 use Rattle.shapes.proofs.shape.Found as FoundType
 use Rattle.sorts.specs.Result.{ok}
@@ -30,11 +30,11 @@ use Rattle.means.specs.Literal.{Lit, madeRow, readWith}
 use Rattle.well_sorted.proofs.Results.{refuses, ok-same, went, passed, was-found}
 use Rattle.well_sorted.proofs.Readings.{Reading, r-bits, r-string, r-true, r-false, r-member, reading}
 use Rattle.settled.specs.Settled.{Settled}
-use Rattle.settled.specs.Taken.{Stood, Taken, argument, iteShape, isIte}
+use Rattle.settled.specs.Taken.{iteShape, isIte}
 use Rattle.forms.proofs.Arms.{Accepts, app-accepts, is-none, is-as-some, is-some, is-extension, is-indexed, is-unary, is-binary, is-entity}
-use Rattle.forms.proofs.Parts.{Headed, heads, Heads, Behind, behind-head, settled-in}
+use Rattle.forms.proofs.Parts.{heads, Heads, behind-head, settled-in}
 use Rattle.equality.specs.declared.part.Part.{Part}
-use Rattle.equality.specs.Part.{Single, Joined, PartSays, PartAt}
+use Rattle.equality.specs.Part.{PartSays, PartAt}
 
 -- a set is an application
 set-app : (T : Tables) (a : ℕ) (e : Option ℕ) (t : Tree) (l : Lit) (vs : Values) → readWith T true (suc a) e t ≡ ok l → l .value ≡ vSet vs → (us : Trees) × (t ≡ app us)

@@ -21,14 +21,14 @@ use Rattle.sorts.specs.Sort.{levels}
 use Rattle.means.specs.Literal.{Lit, readWith}
 use Rattle.well_sorted.proofs.Results.{refuses, went}
 use Rattle.well_sorted.proofs.Deeper.{deeper}
-use Rattle.values.proofs.Operators.{some-one}
+use Rattle.tables.proofs.Places.{some-one}
 use Rattle.settled.specs.Settled.{decision}
 use Rattle.settled.specs.Taken.{argument, Leads, stays, takes}
 use Rattle.settled.proofs.Steps.{ite-call, Three, three-of}
 use Rattle.settled.proofs.Takes.{Chosen, chosen-of, decides-of}
 use Rattle.forms.proofs.Arms.{Accepts}
 use Rattle.forms.proofs.Parts.{Heads, heads, behind-head}
-use Rattle.equality.specs.Singles.{byBranch, singlesOf, singles}
+use Rattle.equality.specs.Singles.{singlesOf, singles}
 
 module _ (T : Tables) (ws : List ℕ) where
   -- one level more finds no others

@@ -7,7 +7,7 @@ use Rattle.tables.specs.Sort.{Tables}
 use Rattle.shapes.specs.Shape.{asEmpty, singleton, union, shape}
 use Rattle.arena.specs.Tree.{Tree, Trees, app}
 use Rattle.sorts.specs.Sort.{levels}
-use Rattle.values.specs.Value.{Value, Values, vSet, vNil, vCons, union as both}
+use Rattle.values.specs.Value.{Values, vSet, vNil, vCons, union as both}
 use Rattle.means.specs.Literal.{Lit}
 use Rattle.settled.specs.Taken.{Stood, Taken, argument}
 use Rattle.equality.specs.declared.part.Part.{Part}

@@ -5,19 +5,16 @@ use mathlib.Core.Bool.{Bool, true, false, _&&_, true≢false}
 use mathlib.Core.List.{List, [], _∷_}
 use mathlib.Core.Option.{Option, none, some}
 use Prim.Native.Nat.{ℕ, suc, _%_, _^_, _≤_, _<_}
-use native.Mathlib.Nat.{mod-add-div', lt-of-lt-of-le}
-use native.Mathlib.Omega.{arith}
-use lib.Dec.{eqb, leb, ltb}
-use lib.IntN.{_+ℤ_, _*ℤ_}
+use native.Mathlib.Nat.{lt-of-lt-of-le}
+use lib.Dec.{leb, ltb}
 use lib.Pow.{pow-mono}
 use borrow.Author.Tests.{leb-false, lt-ltb, ltb-true}
 use Rattle.ground.specs.Options.{over}
-use Rattle.ground.proofs.Tests.{by-test, by-order, both-right}
+use Rattle.ground.proofs.Tests.{by-test, by-order}
 use Rattle.refusals.specs.declared.Refusal.the-variants.{IntegerOverflow, ZeroWidthBitVec, UnmatchedType, UnmatchedFieldType}
 use Rattle.words.specs.declared.digits.Radix.{Radix}
 use Rattle.words.specs.Extension.{signed}
-use Rattle.words.specs.Radix.{baseOf}
-use Rattle.words.specs.Run.{number, digits, someByte, parsed}
+use Rattle.words.specs.Run.{number, parsed}
 use Rattle.arena.specs.Tree.{Tree, Trees, bitVec as bits, numeral, string as quoted, symbol, app, nil, cons}
 use Rattle.tables.specs.Sort.{Ext, Tables}
 use Rattle.shapes.specs.declared.shape.BinaryOp.{BinaryOp}
@@ -25,40 +22,15 @@ use Rattle.shapes.specs.declared.shape.UnaryOp.{UnaryOp}
 use Rattle.shapes.specs.Shape.{Shape, unary, binary, asNone, asSome, someOf, asEmpty, singleton, union, extension, indexed, shape}
 use Rattle.sorts.specs.Result.{Result, ok}
 use Rattle.sorts.specs.Sort.{readSort, levels}
-use Rattle.values.specs.Equal.{decided, equal}
 use Rattle.values.specs.Holds.{truthOf}
-use Rattle.values.specs.Normal.{normal}
 use Rattle.values.specs.Value.{Value, Values, vBool, vExt, vBits, vNone, vSome, vSet, vEntity, vNil, vCons, union as both}
-use Rattle.values.proofs.Operators.{some-one, IsBool, negated-bool, either-bool, bvnego-bool, leaving-bool}
 use Rattle.means.specs.Literal.{Lit, unsigned, numbered, unaryOf, binaryOf, entityLit, fieldsOf, sameCount, appLit, readWith}
 use Rattle.well_sorted.proofs.Results.{refuses, ok-same, went, passed, was-found}
 use Rattle.settled.specs.Settled.{kept, decision}
 use Rattle.settled.proofs.Takes.{at-levels}
+use Rattle.well_sorted.proofs.Fits.{number-fits}
+use Rattle.well_sorted.proofs.Readings.{unary-bool, binary-bool}
 use Rattle.forms.specs.Form.{Listed, l-nil, l-cons}
-
--- what an operator gives is a bool
-unary-bool : (op : UnaryOp) (l : Lit) (v : Value) → unaryOf op l ≡ some v → IsBool v
-unary-bool UnaryOp.Not l v e = negated-bool (l .value) v e
-unary-bool UnaryOp.Bvnego l v e = bvnego-bool (l .value) v e
-
-binary-bool : (op : BinaryOp) (l m : Lit) (v : Value) → binaryOf op l m ≡ some v → IsBool v
-binary-bool BinaryOp.Or l m v e = either-bool (l .value) (m .value) v e
-binary-bool BinaryOp.Equal l m v e =
-    by-test (eqb (l .row) (m .row))
-    (λ h. (decided (equal (normal (l .value)) (normal (m .value))), sym (some-one (rw h at e))))
-    (λ h. let k : _≡_ {A = Option Value} none (some v) = (rw h at e) in let z : _≡_ {A = ℕ} 0 1 = cc in absurd (omega arith))
-binary-bool BinaryOp.Bvsaddo l m v e = leaving-bool _+ℤ_ (l .value) (m .value) v e
-binary-bool BinaryOp.Bvsmulo l m v e = leaving-bool _*ℤ_ (l .value) (m .value) v e
-
--- a number that was parsed has 128 bits, and so the width that was checked
-number-fits : (r : Radix) (s : List ℕ) (n : ℕ) → numbered (parsed r s) ≡ ok n → n < 2 ^ 128
-unfolding parsed
-number-fits r s n e =
-    by-test (someByte s && digits r s && ltb (number (baseOf r) s) (2 ^ 128))
-    (λ h.
-    let k = sym (mod-add-div' (number (baseOf r) s) (2 ^ 64)) ∙ ok-same (rw h at e) in
-    subst (λ (m : ℕ). m < 2 ^ 128) k (ltb-true _ _ (both-right (someByte s && digits r s) _ h)))
-    (λ h. refuses (rw h at e))
 
 width-fits : (w n : ℕ) → (ltb w 128 && leb (2 ^ w) n) ≡ false → n < 2 ^ 128 → n < 2 ^ w
 width-fits w n h f =

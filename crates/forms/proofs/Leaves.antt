@@ -120,7 +120,7 @@ pub found-none : (o : Option ℕ) (q : Found) → q ≡ asFound o → q ≡ Foun
 found-none none q h k = refl
 found-none (some r) q h k = let z : _≡_ {A = Found} (Found.Row r) Found.NoRow = sym h ∙ k in let y : _≡_ {A = ℕ} 0 1 = cc in absurd (omega arith)
 
-member-place : (l : Lent) (name : List ℕ) (row : ℕ) → memberRow (tablesOf l) name ≡ some row → at (tablesOf l .members) row ≡ some (memberAt l row)
+pub member-place : (l : Lent) (name : List ℕ) (row : ℕ) → memberRow (tablesOf l) name ≡ some row → at (tablesOf l .members) row ≡ some (memberAt l row)
 unfolding memberRow tablesOf
 member-place l name row e =
     let h = find-within (λ (m : Member). sameText name (m .name)) (tablesOf l .members) row e in

@@ -26,7 +26,7 @@ use Rattle.shapes.proofs.Stood.{first-of}
 use Rattle.sorts.specs.Result.{ok}
 use Rattle.sorts.specs.Sort.{readSort}
 use Rattle.values.specs.Value.{Value}
-use Rattle.values.proofs.Operators.{some-one}
+use Rattle.tables.proofs.Places.{some-one}
 use Rattle.means.specs.Literal.{Lit, madeRow, readWith}
 use Rattle.well_sorted.proofs.Results.{refuses, ok-same, went, passed, was-found}
 use Rattle.forms.specs.declared.form.Form.{Form}

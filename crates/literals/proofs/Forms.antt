@@ -22,6 +22,7 @@ use Rattle.sorts.specs.Result.{Result, ok, refused, _>>=_, found}
 use Rattle.sorts.proofs.Read.{read-row, read-refused}
 use Rattle.values.specs.Value.{Value, vNone, vSome, vSet, vNil, vCons}
 use Rattle.values.proofs.Lengths.{length-none, length-some, length-set}
+use Rattle.forms.proofs.Leaves.{found-row, found-none}
 use Rattle.literals.specs.declared.answer.Literal.{Literal}
 use Rattle.literals.specs.declared.form.Form.{Form}
 use Rattle.literals.specs.declared.form.Expected.{Expected}
@@ -32,15 +33,6 @@ use Rattle.literals.specs.Answer.{answer, need, capped, ValueOf}
 use Rattle.literals.specs.Parts.{insideOf, expectedOf, thenLit, bareLit, optionRow, setRow, bareAnswer, InsideRow, Expects, BareOf, Finishes, Matches}
 use Rattle.literals.proofs.Needs.{need-is, need-more, need-single}
 use Rattle.literals.proofs.Answers.{same-value, Told, value-told, refused-told}
-
--- an answer of a search tells what was found
-pub found-row : (o : Option ℕ) (q : Found) (row : ℕ) → q ≡ asFound o → q ≡ Found.Row row → o ≡ some row
-found-row none q row h k = let z : _≡_ {A = Found} Found.NoRow (Found.Row row) = sym h ∙ k in let y : _≡_ {A = ℕ} 0 1 = cc in absurd (omega arith)
-found-row (some r) q row h k = let z : _≡_ {A = Found} (Found.Row r) (Found.Row row) = sym h ∙ k in let y : r ≡ row = cc in ap some y
-
-pub found-none : (o : Option ℕ) (q : Found) → q ≡ asFound o → q ≡ Found.NoRow → o ≡ none
-found-none none q h k = refl
-found-none (some r) q h k = let z : _≡_ {A = Found} (Found.Row r) Found.NoRow = sym h ∙ k in let y : _≡_ {A = ℕ} 0 1 = cc in absurd (omega arith)
 
 -- the words of a row, and the sort that it stands for
 module _ (l : Lent) (i : ℕ) where

@@ -9,7 +9,7 @@ use borrow.Author.Tests.{eq-eqb, ne-eqb}
 use Rattle.refusals.specs.declared.Refusal.{Refusal}
 use Rattle.refusals.specs.declared.Refusal.the-variants.{UnmatchedType, SetUnionNonLiterals}
 use Rattle.sorts.specs.Result.{Result, ok, refused, _>>=_, unless}
-use Rattle.values.specs.Value.{Value, Values, vBool, vString, vExt, vBits, vNone, vSome, vSet, vEntity, vRecord, union as both}
+use Rattle.values.specs.Value.{Value, Values, vSet, union as both}
 use Rattle.literals.specs.declared.answer.Literal.{Literal}
 use Rattle.values.specs.Holds.{held}
 use Rattle.values.proofs.Holds.{held-set}

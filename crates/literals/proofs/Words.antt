@@ -4,7 +4,7 @@ use mathlib.Core.Path.{_≡_, refl, sym, ap, _∙_, subst}
 use mathlib.Core.Bool.{Bool, true, false}
 use mathlib.Core.List.{List}
 use mathlib.Core.Option.{Option, some}
-use Prim.Native.Nat.{ℕ, _+_, _*_, _-_, _^_, _≤_, _<_}
+use Prim.Native.Nat.{ℕ, _+_, _*_, _-_, _^_, _<_}
 use Prim.Native.String.{String}
 use native.Mathlib.Omega.{arith}
 use lib.IntN.{ℤ}
@@ -13,7 +13,6 @@ use mir.Syntax.{w64}
 use mir.Val.{SFits}
 use mir.ValLaws.{toZ-ofZ}
 use Rattle.ground.specs.Bytes.{bytes}
-use Rattle.ground.specs.Lists.{at}
 use Rattle.refusals.specs.declared.Refusal.the-variants.{UnknownLiteral}
 use Rattle.decimals.specs.Decimal.{digitCount, signedDecimal}
 use Rattle.decimals.proofs.Magnitudes.{back}
@@ -23,25 +22,24 @@ use Rattle.tables.specs.declared.find.Found.{Found}
 use Rattle.tables.specs.declared.row.Range.{Range}
 use Rattle.tables.specs.declared.sort.Wanted.{Wanted}
 use Rattle.tables.specs.Find.{memberRow}
-use Rattle.tables.specs.Layout.{Lent, count, word, part, memberAt, tablesOf}
+use Rattle.tables.specs.Layout.{word, part, memberAt, tablesOf}
 use Rattle.tables.specs.Lookup.{FindsMember}
 use Rattle.tables.specs.Range.{Clamps}
 use Rattle.tables.specs.Sort.{Sort, ext, Member}
 use Rattle.tables.specs.View.{sortWanted}
-use Rattle.tables.proofs.Places.{length-tabulate, at-tabulate, find-within}
 use Rattle.tables.proofs.Ranges.{length-clamped}
 use Rattle.shapes.specs.declared.shape.Kind.{Kind}
 use Rattle.shapes.specs.Shows.{extOf}
 use Rattle.values.specs.Text.{hexWidth}
 use Rattle.values.specs.Value.{Value, vBool, vString, vExt, vBits, vEntity}
 use Rattle.values.proofs.Lengths.{length-true, length-false, length-string, signed-most, length-ext, length-bits, length-entity}
+use Rattle.forms.proofs.Leaves.{found-row, found-none, member-place}
 use Rattle.literals.specs.declared.answer.Literal.{Literal}
 use Rattle.means.specs.Literal.{litOf, memberLit, atRow}
 use Rattle.literals.specs.Answer.{answer, need, capped, ValueOf}
 use Rattle.literals.specs.Parts.{wantedOf, BitsOf, StringOf, ExtensionOf, MemberOf, WordOf}
 use Rattle.literals.proofs.Needs.{need-is, need-twice}
 use Rattle.literals.proofs.Answers.{same-value}
-use Rattle.literals.proofs.Forms.{found-row, found-none}
 
 ext-wanted : (kind : Kind) → sortWanted (wantedOf kind) ≡ ext (extOf kind)
 ext-wanted Kind.Decimal = refl
@@ -77,13 +75,6 @@ member-value members most i row first size range n e f s c k l h g =
     (e ∙ ap (λ (ws : List ℕ). word ws i 2) (sym h))
     (f ∙ ap (λ (ws : List ℕ). word ws i 3) (sym h))
     (s ∙ ap (λ (ws : List ℕ). word ws i 4) (sym h))
-
--- the row that a search found holds a member
-pub member-place : (l : Lent) (name : List ℕ) (row : ℕ) → memberRow (tablesOf l) name ≡ some row → at (tablesOf l .members) row ≡ some (memberAt l row)
-unfolding memberRow tablesOf
-member-place l name row e =
-    let h = find-within (λ (m : Member). sameText name (m .name)) (tablesOf l .members) row e in
-    at-tabulate (memberAt l) (count (l .members)) row (omega (arith, h, length-tabulate (memberAt l) 0 (count (l .members))))
 
 module _ (sorts members names name : List ℕ) where
   abbrev Says : String → Bool → Type 0

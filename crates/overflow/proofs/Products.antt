@@ -1,7 +1,7 @@
 -- A product by the bits of the right number, from the lowest: what is added up, and what is left to be added.
 -- Assumes nothing.
 use mathlib.Core.Path.{_≡_, sym, ap, ap₂, _∙_}
-use Prim.Native.Nat.{ℕ, _+_, _*_, _/_, _%_, _^_, _<_, _≤_}
+use Prim.Native.Nat.{ℕ, _+_, _*_, _/_, _%_, _<_, _≤_}
 use native.Mathlib.Nat.{add-mul, le-trans, mul-add, mul-le-mul-left}
 use native.Mathlib.Omega.{arith}
 use Rattle.words.specs.declared.pair.Grown.the-variants.{Over}

@@ -1,15 +1,13 @@
 -- Numbers of 128 bits without signs, in the code's steps: what is left up to 2 ^ 128, one less, and sums.
 -- Assumes nothing.
-use mathlib.Core.Path.{_≡_, refl, sym, ap, ap₂, _∙_, subst}
+use mathlib.Core.Path.{_≡_, refl, sym, ap, ap₂, _∙_}
 use Prim.Native.Nat.{ℕ, _+_, _*_, _-_, _/_, _%_, _^_, _<_, _≤_}
-use native.Mathlib.Nat.{mod-eq-of-lt, le-trans, le-add-right, lt-of-lt-of-le, add-comm, mul-zero, mul-one}
+use native.Mathlib.Nat.{le-trans, le-add-right, mul-zero, mul-one}
 use native.Mathlib.Omega.{arith}
-use lib.Pow.{pow-pos, pow-mono, mod-pow-add, mod-mod-pow}
 use Rattle.words.specs.declared.pair.Pair.{Pair}
 use Rattle.words.specs.declared.pair.Grown.the-variants.{Fit, Over}
 use Rattle.words.specs.Pair.{value, grown}
 use Rattle.words.proofs.Numbers.{value-fits, too-large, fitting, pair-is, pair-value, grown-fit, grown-over}
-use Rattle.words.proofs.Extends.{unit-is}
 
 -- two numbers of two words, word by word
 apart : (a b c d : ℕ) → a + b * 2 ^ 64 + (c + d * 2 ^ 64) ≡ (a + c) + (b + d) * 2 ^ 64

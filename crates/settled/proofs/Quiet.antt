@@ -4,29 +4,28 @@ use mathlib.Core.Path.{_≡_, refl, sym, ap, _∙_, subst}
 use mathlib.Core.Bool.{Bool, true, false, true≢false}
 use mathlib.Core.List.{List, [], _∷_}
 use mathlib.Core.Option.{Option, none, some}
-use Prim.Native.Nat.{ℕ, zero, suc, _+_, _≤_, _<_}
+use Prim.Native.Nat.{ℕ, zero, suc, _+_}
 use native.Mathlib.Omega.{arith}
 use Rattle.ground.specs.Bytes.{bytes}
 use Rattle.ground.specs.Lists.{at}
 use lib.Dec.{eqb}
 use Rattle.ground.proofs.Tests.{by-order, by-test}
-use Rattle.refusals.specs.declared.Refusal.the-variants.{UnknownLiteral, UnmatchedFieldType, UnmatchedRecordType}
+use Rattle.refusals.specs.declared.Refusal.the-variants.{UnmatchedFieldType, UnmatchedRecordType}
 use Rattle.arena.specs.Node.{nodeAt}
 use Rattle.arena.specs.Stands.{stands, standAll}
 use Rattle.arena.specs.Text.{sameText}
 use Rattle.arena.specs.Tree.{Tree, Trees, bitVec as bits, numeral, string as quoted, symbol, app, nil, cons}
 use Rattle.arena.proofs.Arenas.{one-tree}
-use Rattle.tables.specs.Find.{namedSort}
 use Rattle.tables.specs.Sort.{Sort, bool, string, ext, bitVec, optionOf, setOf, entityOf, recordOf, Tables}
 use Rattle.shapes.specs.Shape.{Shape, uncovered, asNone, asSome, someOf, asEmpty, singleton, union, extension, indexed, made, other, unary, binary, ite, is, extShape, one, shape}
 use Rattle.shapes.specs.Shows.{Standing}
 use Rattle.shapes.proofs.Looks.{kind, kindOf, kinds}
 use Rattle.shapes.specs.SortShape.{SortShape, sortShape}
-use Rattle.sorts.specs.Result.{Result, ok}
+use Rattle.sorts.specs.Result.{ok}
 use Rattle.sorts.specs.Sort.{sortOf, readSort}
 use Rattle.values.specs.Value.{Values}
 use Rattle.means.specs.Literal.{Lit, entityLit, sameCount, fieldsOf, madeRow, appLit, readWith}
-use Rattle.well_sorted.proofs.Results.{refuses, went, passed, was-found}
+use Rattle.well_sorted.proofs.Results.{refuses, went, passed}
 use Rattle.well_sorted.proofs.Views.{View, v-unary, v-binary, v-ite, v-uncovered, v-asNone, v-asSome, v-someOf, v-asEmpty, v-singleton, v-union, v-extension, v-indexed, v-made, v-other, view, SortView, s-word, s-width, s-option, s-set, s-none, sort-view}
 use Rattle.settled.specs.Settled.{decision, Settled}
 

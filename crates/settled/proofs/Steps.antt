@@ -10,7 +10,7 @@ use denote.Enum.Declared.{tagOf}
 use Rattle.ground.specs.Bytes.{bytes}
 use Rattle.arena.specs.Node.{afterAt}
 use Rattle.arena.specs.Stands.{stands}
-use Rattle.arena.specs.Tree.{Tree, Trees, bitVec, numeral, string, symbol, app, nil, cons}
+use Rattle.arena.specs.Tree.{Tree, Trees, bitVec, numeral, string, symbol, app}
 use Rattle.arena.proofs.Layouts.{stands-after, stands-longer}
 use Rattle.shapes.specs.declared.look.Parts.{Parts}
 use Rattle.shapes.specs.declared.shape.Found.{Found}

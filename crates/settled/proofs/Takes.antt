@@ -1,6 +1,6 @@
 -- From branch to branch: what is read stays, up to a node that is no `ite`.
 -- Assumes nothing.
-use mathlib.Core.Path.{_≡_, refl, sym, ap, _∙_, subst}
+use mathlib.Core.Path.{_≡_, sym, ap, _∙_, subst}
 use mathlib.Core.Bool.{Bool, true, false, cond}
 use mathlib.Core.List.{List}
 use mathlib.Core.Option.{Option, none, some}
@@ -29,8 +29,8 @@ use Rattle.well_sorted.proofs.Results.{refuses, ok-same, went, passed, was-foun
 use Rattle.well_sorted.proofs.Deeper.{deeper}
 use Rattle.marks.specs.Mark.{marked}
 use Rattle.settled.specs.declared.branch.Step.{Step}
-use Rattle.settled.specs.Settled.{kept, decision, Settled}
-use Rattle.settled.specs.Taken.{Leads, stays, takes, Branch, Stood, Taken, StepAt, TakesAt}
+use Rattle.settled.specs.Settled.{kept, decision}
+use Rattle.settled.specs.Taken.{Leads, stays, takes, Branch, Stood, StepAt, TakesAt}
 
 -- what is read with an allowance is read with any that is greater
 pub raised : (T : Tables) (o : Bool) (d a : ℕ) (e : Option ℕ) (t : Tree) (l : Lit) → readWith T o a e t ≡ ok l → readWith T o (d + a) e t ≡ ok l

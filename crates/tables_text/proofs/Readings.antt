@@ -10,6 +10,7 @@ use lib.ListN.{length, take, drop, length-take}
 use borrow.Author.Tests.{le-leb, lt-leb}
 use Rattle.ground.specs.Lists.{all}
 use Rattle.ground.specs.Options.{over}
+use Rattle.ground.proofs.Options.{over-some}
 use Rattle.ground.proofs.Tests.{by-test, by-order, one-result, both}
 use Rattle.lexicon.proofs.Spans.{all-take}
 use Rattle.refusals.specs.declared.Refusal.{Refusal}
@@ -33,7 +34,7 @@ use Rattle.tables_text.specs.Reading.{judged, ofParsed, ofText, reading}
 use Rattle.tables_text.specs.Fronts.{answerTold, Within, Storable, Stored}
 use Rattle.tables_text.proofs.Cuts.{clear, cut-found, cut-none}
 use Rattle.tables_text.proofs.Clears.{clear-drop, clear-one-line}
-use Rattle.tables_text.proofs.Spelled.{some-equal, over-some, test-some, sort-sound, variable-sound, function-sound, member-sound}
+use Rattle.tables_text.proofs.Spelled.{some-equal, test-some, sort-sound, variable-sound, function-sound, member-sound}
 use Rattle.tables_text.proofs.Parses.{walk-sound}
 use Rattle.tables_text.proofs.Back.{read-back}
 use Rattle.tables_text.proofs.Meanings.{laid-means, laid-formed}

@@ -13,6 +13,7 @@ use borrow.Author.Tests.{eqb-true, not-false}
 use Rattle.ground.specs.Bytes.{bytes}
 use Rattle.ground.specs.Lists.{joined}
 use Rattle.ground.specs.Options.{over}
+use Rattle.ground.proofs.Options.{over-some}
 use Rattle.ground.proofs.Tests.{by-test, by-order, by-cond}
 use Rattle.lexicon.proofs.Spans.{span-next}
 use Rattle.arena.specs.Text.{sameText}
@@ -27,11 +28,7 @@ use Rattle.tables_text.specs.Told.{formTold}
 use Rattle.tables_text.proofs.Cuts.{begins-split, cut-found, cut-none, cut-split, cut-joins}
 use Rattle.tables_text.proofs.Numerals.{numeral-sound}
 
--- what is there, of two rules one after the other
-pub over-some : {A B : Type 0} (o : Option A) (rule : A → Option B) (y : B) → over o rule ≡ some y → (x : A) × (o ≡ some x) × (rule x ≡ some y)
-over-some none rule y h = let z : _≡_ {A = ℕ} 0 1 = cc in absurd (omega arith)
-over-some (some x) rule y h = (x, refl, h)
-
+-- what is there, where a test passes
 pub test-some : {A : Type 0} (t : Bool) (o : Option A) (y : A) → cond t o none ≡ some y → (t ≡ true) × (o ≡ some y)
 test-some true o y h = (refl, h)
 test-some false o y h = let z : _≡_ {A = ℕ} 0 1 = cc in absurd (omega arith)

@@ -4,7 +4,7 @@ use mathlib.Core.Path.{_≡_, refl, sym, ap, _∙_, subst}
 use mathlib.Core.Bool.{true}
 use mathlib.Core.List.{List, [], _∷_, _++_, append-nil, append-assoc}
 use mathlib.Core.Option.{Option, some}
-use Prim.Native.Nat.{ℕ, suc, _+_, _-_, _*_, _^_, _≤_, _<_}
+use Prim.Native.Nat.{ℕ, _+_, _-_, _*_, _^_, _≤_, _<_}
 use native.Mathlib.Nat.{mod-eq-of-lt}
 use native.Mathlib.Omega.{arith}
 use lib.ListN.{length, take, drop}
@@ -19,7 +19,7 @@ use Rattle.words.specs.Extension.{signed}
 use Rattle.words.specs.Run.{parsed}
 use Rattle.decimals.specs.Decimal.{decimal}
 use Rattle.arena.specs.Text.{textAt}
-use Rattle.arena.specs.Tree.{Tree, Trees, string as quoted, app, nil, cons}
+use Rattle.arena.specs.Tree.{Tree, Trees, string as quoted, nil, cons}
 use Rattle.tables.specs.Find.{namedSort}
 use Rattle.tables.specs.Layout.{Lent, tablesOf}
 use Rattle.tables.specs.Sort.{Tables}
@@ -29,13 +29,12 @@ use Rattle.shapes.specs.Shape.{Shape, shape}
 use Rattle.shapes.specs.Shows.{Standing, StandingAll, Shows, ShapeAt, extOf, Reads as TextReads}
 use Rattle.shapes.proofs.Stood.{first-of}
 use Rattle.shapes.proofs.shape.Found as FoundType
-use Rattle.sorts.specs.Result.{ok}
 use Rattle.values.specs.Value.{Value, Values, vBits, vExt, vNone, vSome, vEntity, vRecord, vNil, vCons}
 use Rattle.values.specs.Text.{text, texts}
 use Rattle.values.specs.Normal.{normal, normals}
 use Rattle.values.specs.HasSort.{HasSort, Loose}
 use Rattle.literals.specs.Answer.{capped}
-use Rattle.means.specs.Literal.{Lit, unsigned, numbered, read}
+use Rattle.means.specs.Literal.{Lit, unsigned, numbered}
 use Rattle.well_sorted.proofs.Results.{refuses}
 use Rattle.value_text.specs.declared.made.Made.{Made}
 use Rattle.value_text.specs.Leaf.{IndexedText, EntityText}

@@ -1,16 +1,12 @@
 -- Hex digits: of a byte, of a pair of words, and put into a buffer, the last one first.
 -- Assumes nothing.
-use mathlib.Core.Path.{_≡_, refl, sym, ap, _∙_, subst}
+use mathlib.Core.Path.{_≡_, refl, sym, ap, _∙_}
 use mathlib.Core.List.{List, [], _∷_, _++_}
 use Prim.Native.Nat.{ℕ, _+_, _*_, _-_, _/_, _%_, _^_, _<_, _≤_}
-use native.Mathlib.Nat.{mod-eq-of-lt, lt-of-lt-of-le, add-comm}
 use native.Mathlib.Numerals.{add-one}
 use native.Mathlib.Omega.{arith}
 use lib.ListN.{length, take, drop, set}
-use lib.Pow.{pow-pos, pow-mono, mod-pow-add, mod-mod-pow}
 use borrow.Author.Tests.{lt-ltb, le-ltb}
-use Rattle.words.proofs.Numbers.{value-fits}
-use Rattle.words.proofs.Extends.{unit-is}
 use Rattle.decimals.proofs.Puts.{Putting, putting-step, putting-end}
 use Rattle.values.specs.Text.{hexDigit, hex}
 

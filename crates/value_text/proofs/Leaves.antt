@@ -51,8 +51,7 @@ use Rattle.sorts.specs.Result.{Result, ok}
 use Rattle.values.specs.Value.{Value, vBool, vString, vExt, vBits, vEntity}
 use Rattle.values.specs.Text.{text, hex, hexText, hexWidth, mark}
 use Rattle.means.specs.Literal.{Lit, unsigned, numbered, litOf, memberLit, atRow, wordLit}
-use Rattle.literals.proofs.Forms.{found-row, found-none}
-use Rattle.literals.proofs.Words.{member-place}
+use Rattle.forms.proofs.Leaves.{found-row, found-none, member-place}
 use Rattle.well_sorted.proofs.Results.{refuses, ok-same, went}
 use Rattle.value_text.specs.Leaf.{IndexedText, EntityText, MemberText, WordText}
 

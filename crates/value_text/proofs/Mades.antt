@@ -19,7 +19,7 @@ use Rattle.tables.specs.Sort.{Sort, bool, string, ext, bitVec, optionOf, setOf,
 use Rattle.tables.specs.View.{sortRowAt, meant}
 use Rattle.tables.proofs.Sorts.{row-meant}
 use Rattle.tables.proofs.sort.SortRow as RowType
-use Rattle.literals.proofs.Forms.{found-row, found-none}
+use Rattle.forms.proofs.Leaves.{found-row, found-none}
 use Rattle.well_sorted.proofs.Finds.{IsNamed, named-is}
 use Rattle.value_text.specs.declared.made.Made.{Made}
 use Rattle.value_text.specs.Made.{RowIs, MadeRow, MadeOf}

@@ -6,18 +6,16 @@ use Prim.Native.Nat.{ℕ, zero, suc, _≤_}
 use lib.ListN.{length}
 use Rattle.ground.specs.Bytes.{bytes}
 use Rattle.runs.specs.Run.{run}
-use Rattle.arena.specs.Tree.{Tree, Trees, app, nil, cons}
+use Rattle.arena.specs.Tree.{Tree, Trees, nil, cons}
 use Rattle.tables.specs.Layout.{Lent, tablesOf}
 use Rattle.tables.specs.Sort.{Tables}
-use Rattle.shapes.specs.Shape.{made}
-use Rattle.shapes.specs.Shows.{Standing, StandingAll, Reads}
+use Rattle.shapes.specs.Shows.{Standing, StandingAll}
 use Rattle.sorts.specs.Result.{ok}
-use Rattle.sorts.specs.Sort.{readSort}
-use Rattle.values.specs.Value.{Value, Values, vSome, vSet, vRecord, vNil, vCons}
+use Rattle.values.specs.Value.{Value, Values, vSet, vNil, vCons}
 use Rattle.values.specs.Text.{text, texts}
 use Rattle.values.specs.Normal.{normal, normals}
 use Rattle.values.specs.HasSort.{HasSort, HaveSort, Loose}
-use Rattle.means.specs.Literal.{Lit, read, appLit}
+use Rattle.means.specs.Literal.{Lit, read}
 use Rattle.value_text.specs.Wrote.{Wrote}
 use Rattle.value_text.specs.Laid.{Lays}
 

@@ -9,19 +9,13 @@ use lib.Dec.{eqb, leb}
 use lib.IntN.{ℤ}
 use borrow.Author.Tests.{leb-true}
 use Rattle.ground.specs.Options.{over}
+use Rattle.ground.proofs.Options.{over-some}
 use Rattle.ground.proofs.Tests.{by-test}
+use Rattle.tables.proofs.Places.{some-one}
 use Rattle.values.specs.Holds.{truthOf}
 use Rattle.values.specs.Normal.{normal}
 use Rattle.values.specs.Operators.{negated, either, chosen, onBits, bvnego, leaving}
 use Rattle.values.specs.Value.{Value, vBool, vString, vExt, vBits, vNone, vSome, vSet, vEntity, vRecord}
-
--- what is there, and what was made of it
-pub some-one : {A : Type 0} {x y : A} → _≡_ {A = Option A} (some x) (some y) → x ≡ y
-some-one e = cc
-
-pub over-some : {A B : Type 0} (o : Option A) (f : A → Option B) (y : B) → over o f ≡ some y → (x : A) × (o ≡ some x) × (f x ≡ some y)
-over-some none f y e = let z : _≡_ {A = ℕ} 0 1 = cc in absurd (omega arith)
-over-some (some x) f y e = (x, refl, e)
 
 pub truth-is : (v : Value) (b : Bool) → truthOf v ≡ some b → v ≡ vBool b
 truth-is (vBool c) b e = ap vBool (some-one e)

@@ -34,7 +34,7 @@ use Rattle.well_sorted.proofs.Insides.{members-fit}
 use Rattle.well_sorted.proofs.Members.{member-kept}
 
 -- a number that was parsed has 128 bits
-number-fits : (r : Radix) (s : List ℕ) (n : ℕ) → numbered (parsed r s) ≡ ok n → n < 2 ^ 128
+pub number-fits : (r : Radix) (s : List ℕ) (n : ℕ) → numbered (parsed r s) ≡ ok n → n < 2 ^ 128
 unfolding parsed
 number-fits r s n e =
     by-test (someByte s && digits r s && ltb (number (baseOf r) s) (2 ^ 128))

@@ -31,7 +31,8 @@ use Rattle.values.specs.Normal.{normal}
 use Rattle.values.specs.Value.{Value, Values, vBool, vString, vExt, vBits, vNone, vSome, vSet, vEntity, vRecord, vNil, vCons, union as both, members}
 use Rattle.means.specs.Literal.{Lit, lit, unaryOf, binaryOf, optionIn, setIn, unsigned, numbered, litOf, expectIn, indexedLit, entityLit, sameCount, fieldsOf, madeRow, appLit, memberLit, atRow, wordLit, readWith}
 use Rattle.values.proofs.Holds.{held-set}
-use Rattle.values.proofs.Operators.{some-one, IsBool, negated-bool, either-bool, bvnego-bool, leaving-bool, chosen-one}
+use Rattle.tables.proofs.Places.{some-one}
+use Rattle.values.proofs.Operators.{IsBool, negated-bool, either-bool, bvnego-bool, leaving-bool, chosen-one}
 use Rattle.well_sorted.proofs.Results.{refuses, ok-same, went, passed, was-found}
 use Rattle.well_sorted.proofs.Views.{extName, call1, call2, call3, unaryName, binaryName, View, v-unary, v-binary, v-ite, v-uncovered, v-asNone, v-asSome, v-someOf, v-asEmpty, v-singleton, v-union, v-extension, v-indexed, v-made, v-other, view}
 use Rattle.well_sorted.proofs.Insides.{option-inside, set-inside}
@@ -79,11 +80,11 @@ pub data Reading (o : Bool) (T : Tables) (a : ℕ) (e : Option ℕ) : Tree → �
       Reading o T a e (app (cons (symbol f) us)) row (vRecord row vs)
 
 -- what an operator gives is a bool
-unary-bool : (op : UnaryOp) (l : Lit) (v : Value) → unaryOf op l ≡ some v → IsBool v
+pub unary-bool : (op : UnaryOp) (l : Lit) (v : Value) → unaryOf op l ≡ some v → IsBool v
 unary-bool UnaryOp.Not l v e = negated-bool (l .value) v e
 unary-bool UnaryOp.Bvnego l v e = bvnego-bool (l .value) v e
 
-binary-bool : (op : BinaryOp) (l m : Lit) (v : Value) → binaryOf op l m ≡ some v → IsBool v
+pub binary-bool : (op : BinaryOp) (l m : Lit) (v : Value) → binaryOf op l m ≡ some v → IsBool v
 binary-bool BinaryOp.Or l m v e = either-bool (l .value) (m .value) v e
 binary-bool BinaryOp.Equal l m v e =
     by-test (eqb (l .row) (m .row))
