@@ -90,6 +90,7 @@ vectors: oracle
 # Runs every row of docs/DIFFERENCES.md that has an input.
 confirm: oracle
 	python3 oracle/confirm.py
+	python3 oracle/confirm.py oracle/DIFFERENCES-R2.md worked
 
 # Sets our library beside the Rust: in one process on millions of strings, readings and script lines, then model by model, whole, with
 # counts by answer and by difference met; and the Rust's answers beside a second reading of document 01. Then replies to get-value beside
