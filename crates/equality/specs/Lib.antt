@@ -1,3 +1,4 @@
 pub mod Part
 pub mod Singles
 pub mod Notes
+pub mod Leaf

@@ -1,8 +1,13 @@
-// Whether two values of an arena are one: leaves by what they hold, options and records part by part, sets by their members.
+// Whether two values of an arena are one: leaves by what they hold; what a set is made of, and its members noted.
 mod flags;
+mod leaf;
 mod part;
 
 pub use flags::all_met;
 pub use flags::clear_members;
+pub use leaf::same_at;
+pub use leaf::same_bits;
+pub use leaf::same_entity;
+pub use leaf::same_number;
 pub use part::Part;
 pub use part::part_at;

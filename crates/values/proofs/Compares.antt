@@ -13,16 +13,13 @@ use Rattle.order.specs.Every.{Among}
 use Rattle.arena.specs.Text.{sameText}
 use Rattle.arena.proofs.Texts.{same-equal, same-refl}
 use Rattle.tables.specs.Sort.{Ext}
-use Rattle.values.specs.Equal.{decided, equal}
+use Rattle.values.specs.Equal.{equal}
 use Rattle.values.specs.Normal.{normal, normals}
 use Rattle.values.specs.Plain.{PlainValues}
+use Rattle.values.specs.Same.{same}
 use Rattle.values.specs.Value.{Value, Values, vBool, vString, vExt, vBits, vNone, vSome, vSet, vEntity, vRecord, vNil, vCons, listed}
 use Rattle.values.proofs.Decisions.{decided-yes, decided-no, decided-true}
 use Rattle.values.proofs.Sets.{Within, set-same, same-set, some-same, same-some, record-same, same-record, fields-same, same-fields}
-
--- two values, as the values that they are
-abbrev pub same : Value → Value → Bool
-same v w = decided (equal (normal v) (normal w))
 
 -- a test that passes exactly where they are one
 pub same-by : (v w : Value) (b : Bool) → (b ≡ true → normal v ≡ normal w) → (normal v ≡ normal w → b ≡ true) → b ≡ same v w

@@ -4,6 +4,7 @@ pub mod Equal
 pub mod Operators
 pub mod Text
 pub mod Normal
+pub mod Same
 pub mod Plain
 pub mod HasSort
 pub mod Examples
