@@ -2,3 +2,4 @@ pub mod Part
 pub mod Singles
 pub mod Notes
 pub mod Leaf
+pub mod Compared

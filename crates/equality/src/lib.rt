@@ -2,6 +2,7 @@
 mod flags;
 mod leaf;
 mod part;
+mod side;
 
 pub use flags::all_met;
 pub use flags::clear_members;
@@ -11,3 +12,5 @@ pub use leaf::same_entity;
 pub use leaf::same_number;
 pub use part::Part;
 pub use part::part_at;
+pub use side::Compared;
+pub use side::compare;
