@@ -1,4 +1,6 @@
 // The arena of a tree: its nodes' words and its text, and the one view of a node that every reader of words shares.
+#![tactic(auto)]
+
 mod node;
 mod text;
 

@@ -3,7 +3,7 @@ ghost use Rattle.std.specs.Prelude.{◌≡◌};
 ghost use Rattle.arena.specs.Node.{unused, node_of, node_at, after_at};
 
 // What a node's words say; a number is two words, the low one first.
-#[derive(Drop)]
+#[derive(Clone, Copy)]
 pub enum Node {
     BitVec { width: u64, low: u64, high: u64 },
     Numeral { low: u64, high: u64 },

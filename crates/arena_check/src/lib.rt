@@ -1,4 +1,6 @@
 // The check of 27: whether words and a text start with the arena of a tree.
+#![tactic(auto)]
+
 mod node;
 
 ghost use Rattle.arena_check.specs.Checks.{Checks};
@@ -7,7 +9,7 @@ use arena::after;
 use node::{Step, check_node};
 use refusals::Refusal;
 
-#[derive(Drop)]
+#[derive(Clone, Copy)]
 pub enum Checked {
     Tree { nodes: usize, text: usize },
     Refused(Refusal),

@@ -9,7 +9,7 @@ use utf8::is_utf8;
 use words::Pair;
 
 // The text offset behind a node that is right.
-#[derive(Drop)]
+#[derive(Clone, Copy)]
 pub enum Step {
     To(usize),
     Wrong,

@@ -5,7 +5,7 @@ use crate::arm::write_arm;
 use commands::{LinkFound, link_at};
 
 // The node of the default, and the place after the last record.
-#[derive(Drop)]
+#[derive(Clone, Copy)]
 pub struct Chained {
     pub node: usize,
     pub place: usize,

@@ -1,4 +1,6 @@
 // A function's table written as document 01's lines: its arms in order, and its default.
+#![tactic(auto)]
+
 mod arm;
 mod chain;
 mod settle;

@@ -1,4 +1,6 @@
 // The bracket walk: in numbers, and as writes of nodes.
+#![tactic(auto)]
+
 mod nodes;
 mod scan;
 

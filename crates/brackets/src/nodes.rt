@@ -7,7 +7,7 @@ ghost use Rattle.brackets.specs.Put.{node_n, bump_n, close_n, leaf_n, Counts, Fi
 use arena::{APP, CHILDREN, END, FIRST, SECOND, STRIDE, THIRD};
 
 // The words of one node.
-#[derive(Drop)]
+#[derive(Clone, Copy)]
 pub struct Words {
     pub kind: u64,
     pub one: u64,

@@ -2,7 +2,7 @@
 ghost use Rattle.std.specs.Prelude.{◌≡◌, max, ◌+◌, ◌<◌, ◌^◌};
 ghost use Rattle.brackets.specs.Count.{start, stopped, while, opened, closed, added};
 
-#[derive(Drop)]
+#[derive(Clone, Copy)]
 pub enum Phase {
     Going,
     Done,
@@ -10,7 +10,7 @@ pub enum Phase {
     Trailing,
 }
 
-#[derive(Drop)]
+#[derive(Clone, Copy)]
 pub struct Scan {
     pub phase: Phase,
     pub depth: usize,

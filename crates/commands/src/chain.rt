@@ -4,7 +4,7 @@ ghost use Rattle.commands.specs.LinkShows.{LinkAt};
 use arena::{after, text_is};
 use shapes::{Parts, Word, list_at, symbol_at};
 
-#[derive(Drop)]
+#[derive(Clone, Copy)]
 pub enum LinkFound {
     Arm {
         test: usize,

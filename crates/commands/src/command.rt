@@ -8,7 +8,7 @@ use refusals::Refusal;
 use shapes::{Parts, Word, list_at, symbol_at};
 
 // A command, with its names' texts and the nodes of its other parts.
-#[derive(Drop)]
+#[derive(Clone, Copy)]
 pub enum CommandFound {
     Variable {
         size: u64,

@@ -1,5 +1,5 @@
 // Which reply is read: a model, or the pairs that get-value gives.
-#[derive(Drop)]
+#[derive(Clone, Copy)]
 pub enum Form {
     Model,
     Values,

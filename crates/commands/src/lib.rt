@@ -1,4 +1,6 @@
 // The shapes of commands, of function bodies, of tests and of pairs: which of document 01's forms they are, and the nodes that a form hands on.
+#![tactic(auto)]
+
 mod chain;
 mod command;
 mod form;

@@ -7,7 +7,7 @@ use arena::after;
 use shapes::{Parts, Word, list_at, symbol_at};
 
 // The symbol's text, and the node of the second.
-#[derive(Drop)]
+#[derive(Clone, Copy)]
 pub enum PairFound {
     Pair {
         size: u64,

@@ -6,13 +6,13 @@ use shapes::{Parts, Word, list_at, symbol_at};
 use tables::clamp;
 
 // The tests from a node on, so many of them.
-#[derive(Drop)]
+#[derive(Clone, Copy)]
 pub enum TestsFound {
     Tests { first: usize, count: u64 },
     NoTests,
 }
 
-#[derive(Drop)]
+#[derive(Clone, Copy)]
 pub enum KeyFound {
     Key(usize),
     NoKey,

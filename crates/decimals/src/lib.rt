@@ -1,4 +1,6 @@
 // The decimal text of a number, written to the front of a lent buffer.
+#![tactic(auto)]
+
 ghost use Rattle.std.specs.Prelude.{◌≡◌, ◌∷◌, ◌++◌, ◌-◌, ◌≤◌, nat_abs, length, take, drop};
 ghost use Rattle.refusals.specs.declared.Refusal.{Refusal};
 ghost use Rattle.lent.specs.Left.{writing, Leaves};

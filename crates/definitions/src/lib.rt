@@ -1,4 +1,6 @@
 // Whether a definition is right, and how long its text is.
+#![tactic(auto)]
+
 mod body;
 mod function;
 mod measure;

@@ -5,7 +5,7 @@ use literals::{Literal, plus};
 use refusals::Refusal;
 
 // How long the text is with repeats kept.
-#[derive(Drop)]
+#[derive(Clone, Copy)]
 pub enum Measured {
     Need(usize),
     Refused(Refusal),

@@ -1,4 +1,6 @@
 // Whether two values of an arena are one: leaves by what they hold; what a set is made of, and its members noted.
+#![tactic(auto)]
+
 mod flags;
 mod leaf;
 mod part;

@@ -3,7 +3,7 @@ ghost use Rattle.equality.specs.Part.{PartAt};
 
 use shapes::{Found, Parts, list_at, shape_at};
 
-#[derive(Drop)]
+#[derive(Clone, Copy)]
 pub enum Part {
     Empty,
     One(usize),

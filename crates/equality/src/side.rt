@@ -7,7 +7,7 @@ use forms::Form;
 use shapes::Kind;
 use words::Pair;
 
-#[derive(Drop)]
+#[derive(Clone, Copy)]
 pub enum Compared {
     Told(bool),
     Insides {

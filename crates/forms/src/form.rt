@@ -9,7 +9,7 @@ use marks::marked;
 use shapes::{Found, Kind, shape_at};
 
 // A text is so many bytes of the arena's text from an offset on, a member's of the name bytes; a bit vector is the lowest bits of a pair of words.
-#[derive(Drop)]
+#[derive(Clone, Copy)]
 pub enum Form {
     Truth(bool),
     Text {

@@ -1,4 +1,6 @@
 // The class of each byte, how far a symbol or a comment goes, and when bytes are one symbol.
+#![tactic(auto)]
+
 mod class;
 mod span;
 mod symbol;

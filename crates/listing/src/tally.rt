@@ -9,7 +9,7 @@ use literals::plus;
 use tables::{clamp, count, word};
 use walk::{NEED, NODE, noted};
 
-#[derive(Drop)]
+#[derive(Clone, Copy)]
 pub struct Tally {
     pub variables: usize,
     pub functions: usize,

@@ -9,7 +9,7 @@ use sorts::{Sorted, row_of};
 use tables::Wanted;
 
 // The row of the sort, how long the text is with repeats kept, and whether it is a set.
-#[derive(Drop)]
+#[derive(Clone, Copy)]
 pub enum Literal {
     Value {
         row: usize,

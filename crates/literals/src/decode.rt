@@ -24,7 +24,7 @@ fn field_row(fields: &[u64], first: usize, i: usize) -> usize
 }
 
 // A field's answer, of the row that it has to have.
-#[derive(Drop)]
+#[derive(Clone, Copy)]
 pub enum Field {
     Takes(usize),
     Refused(Refusal),

@@ -11,28 +11,28 @@ use sorts::Sorted;
 use tables::{Found, SortRow, Wanted, sort_at};
 
 // The two sorts that hold another.
-#[derive(Drop)]
+#[derive(Clone, Copy)]
 pub enum Form {
     Option,
     Set,
 }
 
 // The sort that a literal is expected to have.
-#[derive(Drop)]
+#[derive(Clone, Copy)]
 pub enum Expected {
     Any,
     Row(usize),
 }
 
 // What is expected inside an option or a is_set, where the expected sort is one.
-#[derive(Drop)]
+#[derive(Clone, Copy)]
 pub enum Inside {
     Expect(Expected),
     Mismatch,
 }
 
 // What follows the reading of the one literal inside: `(some v)`, `((as some T) v)` with T's row, `(set.singleton v)`.
-#[derive(Drop)]
+#[derive(Clone, Copy)]
 pub enum Then {
     Some,
     SomeAs(usize),

@@ -1,4 +1,6 @@
 // What a literal means: those without another one in them, and the steps around one.
+#![tactic(auto)]
+
 mod answer;
 mod decode;
 mod form;

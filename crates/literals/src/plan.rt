@@ -12,7 +12,7 @@ use sorts::{Sorted, read_sort};
 use tables::{Found, SortRow, clamp, find_sort_name, sort_at};
 
 // One literal inside, and what is made of it; two of a union; or as many fields as a record has, from a first one on.
-#[derive(Drop)]
+#[derive(Clone, Copy)]
 pub enum Plan {
     Done(Literal),
     One {

@@ -1,4 +1,6 @@
 // What is remembered of the nodes of an arena, in lent words: one bit for two nodes.
+#![tactic(auto)]
+
 ghost use Rattle.std.specs.Prelude.{◌≡◌, false, ◌<◌};
 ghost use Rattle.marks.specs.Mark.{with_bit, marked, remembered};
 

@@ -1,1 +1,2 @@
 // No code: what a literal means.
+#![tactic(auto)]

@@ -1,1 +1,2 @@
 // No code: what a model defines of the tables' names, and the listing.
+#![tactic(auto)]

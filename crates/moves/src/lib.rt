@@ -1,4 +1,6 @@
 // Bytes moved inside a buffer: drawn together, turned round, cleared; and one byte in place of another.
+#![tactic(auto)]
+
 ghost use Rattle.std.specs.Prelude.{◌≡◌, ◌++◌, min, ◌+◌, ◌-◌, ◌<◌, ◌≤◌, length, take, drop, replicate};
 ghost use Rattle.lent.specs.Put.{Puts};
 ghost use Rattle.moves.specs.Move.{Swapped};

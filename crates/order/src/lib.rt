@@ -1,1 +1,2 @@
 // No code: what order by bytes is, and its laws.
+#![tactic(auto)]

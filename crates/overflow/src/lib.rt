@@ -1,4 +1,6 @@
 // Whether the exact result of a negation, a sum or a product leaves the signed range of the operands' width.
+#![tactic(auto)]
+
 mod sign;
 mod size;
 

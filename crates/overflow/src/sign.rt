@@ -7,7 +7,7 @@ ghost use Rattle.overflow.specs.Sign.{signed_by, Leaves};
 use crate::size::{opposite, predecessor};
 use words::{Grown, Pair, low_bits};
 
-#[derive(Drop)]
+#[derive(Clone, Copy)]
 pub struct Signed {
     pub negative: bool,
     pub size: Pair,

@@ -16,7 +16,7 @@ pub fn exceeds(size: usize, others: bool) -> bool
 }
 
 // Where the last part ends, or that an end falls or passes the string.
-#[derive(Drop)]
+#[derive(Clone, Copy)]
 pub enum Ends {
     Rise(usize),
     Fall,

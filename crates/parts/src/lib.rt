@@ -1,4 +1,6 @@
 // What the lines of a script are made of: tables of ends checked, lists of parts and texts written at a place.
+#![tactic(auto)]
+
 mod ends;
 mod lists;
 mod spaced;

@@ -1,4 +1,6 @@
 // The reader: one S-expression's tree, into lent nodes, text and bracket stack.
+#![tactic(auto)]
+
 mod read;
 mod rooms;
 mod tally;

@@ -9,7 +9,7 @@ use arena::STRIDE;
 use brackets::{Phase, Scan};
 use refusals::{INPUT_LIMIT, Refusal};
 
-#[derive(Drop)]
+#[derive(Clone, Copy)]
 pub enum Reading {
     Read {
         nodes: usize,

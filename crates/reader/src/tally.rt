@@ -10,7 +10,7 @@ use brackets::Scan;
 use refusals::Refusal;
 use tokens::{Kind, Sized};
 
-#[derive(Drop)]
+#[derive(Clone, Copy)]
 pub enum Tally {
     Scanned(Scan),
     Fault(Refusal),

@@ -1,9 +1,11 @@
 // Document 01, "Numbers given back": every refusal, in the order of its number.
+#![tactic(auto)]
+
 ghost use Rattle.std.specs.Prelude.{◌≡◌};
 ghost use Rattle.refusals.specs.Number.{number_of, detail_of};
 
 // A case that names a need holds it: how many nodes, text bytes, open brackets or output bytes would have been enough.
-#[derive(Drop)]
+#[derive(Clone, Copy)]
 pub enum Refusal {
     UnexpectedEnd,
     Utf8Error,

@@ -1,4 +1,6 @@
 // Lines of hexadecimal fields in, lines of answers out: what the programs that replay vectors share.
+#![tactic(auto)]
+
 mod fields;
 mod lines;
 mod marks;

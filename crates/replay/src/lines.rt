@@ -5,7 +5,7 @@ use crate::fields::field_end;
 use libc::STDIN_FILENO;
 
 // A line from its start up to its line feed, where the next one starts, and where what was read ends.
-#[derive(Drop)]
+#[derive(Clone, Copy)]
 pub struct Line {
     pub start: usize,
     pub stop: usize,

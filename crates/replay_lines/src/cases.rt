@@ -6,7 +6,7 @@ use crate::rooms;
 use replay::next_field;
 
 // The form, and where the parts begin: the ends of the two lists too, which stand in fields of their own or are the lists' commas.
-#[derive(Drop)]
+#[derive(Clone, Copy)]
 struct Places {
     form: u8,
     name: usize,

@@ -1,4 +1,6 @@
 // Replays the vectors of the listings: a case a line, answered by what is printed, by what other rooms make of it, and by an empty line.
+#![tactic(auto)]
+
 mod cases;
 mod rooms;
 

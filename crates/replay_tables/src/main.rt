@@ -1,4 +1,6 @@
 // Replays the vectors of the tables: a case a line, answered by a line.
+#![tactic(auto)]
+
 mod cases;
 mod fields;
 mod rooms;

@@ -14,7 +14,7 @@ pub const ROWS: usize = 5130;
 pub const FIELDS: usize = 32768;
 
 // How many words there are for each table, or how many it has.
-#[derive(Drop)]
+#[derive(Clone, Copy)]
 pub struct Words {
     pub sorts: usize,
     pub fields: usize,

@@ -1,4 +1,6 @@
 // A tables' text and a reply, in; the bytes that programs `modellist` and `valuelist` print, out.
+#![tactic(auto)]
+
 mod reply;
 mod rooms;
 mod show;

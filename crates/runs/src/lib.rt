@@ -1,4 +1,6 @@
 // Runs of records brought into order in the bytes where they stand.
+#![tactic(auto)]
+
 mod ends;
 mod index;
 mod keys;

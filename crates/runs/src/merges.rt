@@ -7,7 +7,7 @@ use crate::keys::{below, less};
 use crate::laying::{lay, slide};
 
 // Places in two runs, and in what is made of them.
-#[derive(Drop)]
+#[derive(Clone, Copy)]
 pub struct Places {
     a: usize,
     b: usize,

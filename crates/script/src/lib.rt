@@ -1,4 +1,6 @@
 // The lines of an SMT-LIB script, each written to the front of a lent buffer.
+#![tactic(auto)]
+
 mod datatype;
 mod fixed;
 mod functions;

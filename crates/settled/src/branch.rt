@@ -5,7 +5,7 @@ use marks::marked;
 use shapes::{Found, Parts, list_at, shape_at};
 
 // One step, where there is one.
-#[derive(Drop)]
+#[derive(Clone, Copy)]
 pub enum Step {
     Stay,
     To(usize),

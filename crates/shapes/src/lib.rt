@@ -1,4 +1,6 @@
 // The shapes of written sorts and of applications: which of document 01's forms they are, and the nodes that a form hands on.
+#![tactic(auto)]
+
 mod look;
 mod shape;
 mod sort;

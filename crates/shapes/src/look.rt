@@ -3,26 +3,26 @@ ghost use Rattle.shapes.specs.Shows.{WordAt, IndexOf, WideAt, PartsAt};
 
 use arena::{Node, node_at};
 
-#[derive(Drop)]
+#[derive(Clone, Copy)]
 pub enum Word {
     Symbol { size: u64, offset: u64 },
     NoSymbol,
 }
 
-#[derive(Drop)]
+#[derive(Clone, Copy)]
 pub enum Index {
     Numeral { low: u64, high: u64 },
     NoNumeral,
 }
 
-#[derive(Drop)]
+#[derive(Clone, Copy)]
 pub enum Wide {
     Bits(u64),
     NotWide,
 }
 
 // How many children an application has.
-#[derive(Drop)]
+#[derive(Clone, Copy)]
 pub enum Parts {
     Children(u64),
     NoList,

@@ -6,7 +6,7 @@ use crate::look::{Index, Parts, Wide, Word, list_at, numeral_at, symbol_at, wide
 use arena::{Node, after, node_at, text_is};
 
 // The sorts that hold a signed 64-bit number.
-#[derive(Drop)]
+#[derive(Clone, Copy)]
 pub enum Kind {
     Decimal,
     Datetime,
@@ -14,13 +14,13 @@ pub enum Kind {
 }
 
 // The operators of one operand and of two that a solver may leave.
-#[derive(Drop)]
+#[derive(Clone, Copy)]
 pub enum UnaryOp {
     Not,
     Bvnego,
 }
 
-#[derive(Drop)]
+#[derive(Clone, Copy)]
 pub enum BinaryOp {
     Or,
     Equal,
@@ -29,7 +29,7 @@ pub enum BinaryOp {
 }
 
 // An arm, with the nodes, the text and the numbers that it hands on.
-#[derive(Drop)]
+#[derive(Clone, Copy)]
 pub enum Found {
     Uncovered,
     AsNone {

@@ -5,7 +5,7 @@ use crate::look::{Index, Parts, Word, list_at, numeral_at, symbol_at};
 use arena::{after, text_is};
 
 // A width is two words, the low one first.
-#[derive(Drop)]
+#[derive(Clone, Copy)]
 pub enum SortFound {
     Word { offset: u64, size: u64 },
     Width { low: u64, high: u64 },

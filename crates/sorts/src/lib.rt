@@ -1,4 +1,6 @@
 // The sort that is written at a node, as its row.
+#![tactic(auto)]
+
 mod sort;
 
 pub use sort::{LEVELS, Sorted, read_sort, row_of};

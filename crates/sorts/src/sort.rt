@@ -8,7 +8,7 @@ use refusals::Refusal;
 use shapes::{SortFound, sort_shape_at};
 use tables::{Found, Wanted, clamp, find_sort, find_sort_name};
 
-#[derive(Drop)]
+#[derive(Clone, Copy)]
 pub enum Sorted {
     Row(usize),
     Refused(Refusal),

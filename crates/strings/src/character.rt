@@ -5,7 +5,7 @@ ghost use Rattle.strings.specs.Points.{character_at};
 use crate::escape::{Escape, escape_at};
 
 // A code point, and how many bytes past the first stand for it.
-#[derive(Drop)]
+#[derive(Clone, Copy)]
 pub struct Character {
     pub point: u32,
     pub more: usize,

@@ -5,14 +5,14 @@ ghost use Rattle.strings.specs.Escape.{braced, braced_escape, four_digits, escap
 use words::digit_worth;
 
 // Hexadecimal digits up to a closing brace: the number read and how many digits it has, or a failed mark.
-#[derive(Drop)]
+#[derive(Clone, Copy)]
 pub enum Braced {
     Closed { value: u32, digits: usize },
     Failed,
 }
 
 // What follows a backslash: an escape's code point and how many bytes it takes, or nothing of the kind.
-#[derive(Drop)]
+#[derive(Clone, Copy)]
 pub enum Escape {
     Point { value: u32, bytes: usize },
     Plain,

@@ -1,4 +1,6 @@
 // decode_string: the text of what stands between the quotes of a string literal.
+#![tactic(auto)]
+
 mod character;
 mod escape;
 mod text;

@@ -10,7 +10,7 @@ use lent::Written;
 use refusals::{INPUT_LIMIT, Refusal};
 use utf8::{Encoded, encode, encoded_length};
 
-#[derive(Drop)]
+#[derive(Clone, Copy)]
 pub enum Measured {
     Text(usize),
     Surrogate,

@@ -8,7 +8,7 @@ use crate::row::{STRIDE, count};
 use crate::rules::{is_function, is_member, is_sort, is_variable};
 use refusals::Refusal;
 
-#[derive(Drop)]
+#[derive(Clone, Copy)]
 pub enum Checked {
     Passed,
     Refused(Refusal),

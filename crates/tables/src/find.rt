@@ -8,7 +8,7 @@ ghost use Rattle.tables.specs.Search.{is_row, first_row};
 use crate::row::{clamp, count, is_inside, word};
 use arena::same;
 
-#[derive(Drop)]
+#[derive(Clone, Copy)]
 pub enum Found {
     Row(usize),
     NoRow,

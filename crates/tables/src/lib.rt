@@ -1,4 +1,6 @@
 // The tables that the decoder is lent: sorts, variables, functions, enum members.
+#![tactic(auto)]
+
 mod alone;
 mod check;
 mod find;

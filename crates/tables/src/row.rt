@@ -38,7 +38,7 @@ pub fn is_inside(first: u64, size: u64, most: usize) -> bool
 }
 
 // What lies from start to end.
-#[derive(Drop)]
+#[derive(Clone, Copy)]
 pub struct Range {
     pub start: usize,
     pub end: usize,

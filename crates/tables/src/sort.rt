@@ -9,7 +9,7 @@ use crate::find::{Found, is_named, may_be_named};
 use crate::row::{count, word};
 
 // What a sort row says; a name is words 0 and 1 of the row, a record's fields are so many from the first on.
-#[derive(Drop)]
+#[derive(Clone, Copy)]
 pub enum SortRow {
     Bool,
     String,
@@ -64,7 +64,7 @@ pub const BIT_VEC: u64 = 6;
 pub const ENTITY: u64 = 9;
 
 // A sort that has no name.
-#[derive(Drop)]
+#[derive(Clone, Copy)]
 pub enum Wanted {
     Bool,
     String,
@@ -76,7 +76,7 @@ pub enum Wanted {
     Set(u64),
 }
 
-#[derive(Drop)]
+#[derive(Clone, Copy)]
 pub struct Key {
     pub kind: u64,
     pub number: u64,

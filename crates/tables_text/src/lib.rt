@@ -1,4 +1,6 @@
 // tables.txt: document 01's text form of the tables, read into lent words.
+#![tactic(auto)]
+
 mod line;
 mod number;
 mod parse;

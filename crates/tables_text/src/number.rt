@@ -3,7 +3,7 @@ ghost use Rattle.std.specs.Prelude.{◌≡◌};
 ghost use Rattle.tables_text.specs.Parse.{numeral, digits_from};
 ghost use Rattle.tables_text.specs.Told.{number_told};
 
-#[derive(Drop)]
+#[derive(Clone, Copy)]
 pub enum Number {
     Is(u64),
     Other,

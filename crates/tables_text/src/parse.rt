@@ -6,7 +6,7 @@ use crate::walk::{function_rows, member_rows, variable_rows};
 use tables::{Checked, STRIDE};
 
 // How many words each table has, or lines that are no lawful tables' form.
-#[derive(Drop)]
+#[derive(Clone, Copy)]
 pub enum Parsed {
     Rows {
         sorts: usize,

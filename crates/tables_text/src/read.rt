@@ -6,7 +6,7 @@ use crate::parse::parse_rows;
 use crate::store::{answer_for, store};
 use refusals::Refusal;
 
-#[derive(Drop)]
+#[derive(Clone, Copy)]
 pub enum TablesRead {
     Read {
         sorts: usize,

@@ -7,20 +7,20 @@ use crate::line::{end_at, starts};
 use crate::number::{Number, number_in};
 
 // A number that a space ends, and where what follows the space begins.
-#[derive(Drop)]
+#[derive(Clone, Copy)]
 pub enum Before {
     Is { number: u64, next: usize },
     Other,
 }
 
 // How long the name is, and the row of its sort.
-#[derive(Drop)]
+#[derive(Clone, Copy)]
 pub enum VariableLine {
     Row { name: usize, sort: u64 },
     Other,
 }
 
-#[derive(Drop)]
+#[derive(Clone, Copy)]
 pub enum FunctionLine {
     Row {
         name: usize,
@@ -31,7 +31,7 @@ pub enum FunctionLine {
 }
 
 // How long the name is, the entity's row, and how long the text is, which ends the line.
-#[derive(Drop)]
+#[derive(Clone, Copy)]
 pub enum MemberLine {
     Row {
         name: usize,

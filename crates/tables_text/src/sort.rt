@@ -8,7 +8,7 @@ use crate::number::{Number, number_in};
 use arena::same;
 
 // The kind and the number of a sort without a name.
-#[derive(Drop)]
+#[derive(Clone, Copy)]
 pub enum SortLine {
     Plain { kind: u64, number: u64 },
     Entity,
@@ -17,7 +17,7 @@ pub enum SortLine {
 }
 
 // How long the name is, and how many fields follow it.
-#[derive(Drop)]
+#[derive(Clone, Copy)]
 pub enum RecordLine {
     Row { name: usize, count: usize },
     Other,

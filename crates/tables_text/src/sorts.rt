@@ -10,13 +10,13 @@ use crate::sort::{RecordLine, SortLine, form_of, record_in};
 use crate::walk::{ROW_LIMIT, put_row};
 
 // Where the next line begins and how many fields there are now, or no line that is a sort's row.
-#[derive(Drop)]
+#[derive(Clone, Copy)]
 pub enum SortNext {
     Next { at: usize, fields: usize },
     Stop,
 }
 
-#[derive(Drop)]
+#[derive(Clone, Copy)]
 pub struct SortWalk {
     pub at: usize,
     pub rows: usize,

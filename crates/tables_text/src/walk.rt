@@ -15,14 +15,14 @@ use tables::STRIDE;
 pub const ROW_LIMIT: usize = 1024;
 
 // Where the next line begins, or no line that is a row.
-#[derive(Drop)]
+#[derive(Clone, Copy)]
 pub enum Line {
     Next(usize),
     Stop,
 }
 
 // Where the rows of a kind end, and how many they are.
-#[derive(Drop)]
+#[derive(Clone, Copy)]
 pub struct Walk {
     pub at: usize,
     pub rows: usize,

@@ -8,7 +8,7 @@ use refusals::Refusal;
 use strings::Measured;
 use words::{Parsed, Radix};
 
-#[derive(Drop)]
+#[derive(Clone, Copy)]
 pub enum Sized {
     Text(usize),
     Fault(Refusal),

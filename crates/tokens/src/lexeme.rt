@@ -7,7 +7,7 @@ ghost use Rattle.tokens.specs.Lexeme.{lexeme, run_span, inside, after_quote, bit
 
 use words::{Radix, digit_worth};
 
-#[derive(Drop)]
+#[derive(Clone, Copy)]
 pub enum Kind {
     Blank,
     Opening,
@@ -21,7 +21,7 @@ pub enum Kind {
 }
 
 // The content begins skip bytes after the place and has size bytes; the whole takes width bytes.
-#[derive(Drop)]
+#[derive(Clone, Copy)]
 pub struct Lexeme {
     pub kind: Kind,
     pub skip: usize,

@@ -1,4 +1,6 @@
 // Bytes to tokens.
+#![tactic(auto)]
+
 mod atom;
 mod blanks;
 mod lexeme;

@@ -1,4 +1,6 @@
 // What each answer tells a caller in another language: one word, and its numbers at the front of a lent slice.
+#![tactic(auto)]
+
 mod answer;
 mod rows;
 mod trees;

@@ -1,4 +1,6 @@
 // Reads one S-expression from standard input and lists its tree: the needs, a line a node, and the text.
+#![tactic(auto)]
+
 mod shows;
 
 ghost use Rattle.std.specs.Prelude.{◌≡◌, length};

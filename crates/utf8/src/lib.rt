@@ -1,4 +1,6 @@
 // UTF-8: whether a string of bytes is UTF-8, and the bytes of one code point.
+#![tactic(auto)]
+
 ghost use Rattle.std.specs.Prelude.{◌≡◌, cond, [], ◌∷◌, ◌+◌, ◌<◌, ◌≤◌, length, drop, replicate};
 ghost use Rattle.utf8.specs.Rows.{◌to◌, tail, rows};
 ghost use Rattle.utf8.specs.Octets.{starts_with, width, utf8};
@@ -91,7 +93,7 @@ fn octet_at(s: &[u8], j: usize, first: u8, last: u8) -> bool
 }
 
 // The bytes of one code point, if it has an encoding.
-#[derive(Drop)]
+#[derive(Clone, Copy)]
 pub enum Encoded {
     One(u8),
     Two(u8, u8),

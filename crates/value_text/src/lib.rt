@@ -1,4 +1,6 @@
 // A value written as its text to the front of what is lent, the rest of a caller's buffer.
+#![tactic(auto)]
+
 mod hex;
 mod leaf;
 mod made;

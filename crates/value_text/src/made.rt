@@ -4,7 +4,7 @@ ghost use Rattle.value_text.specs.Made.{MadeOf, MadeRow};
 use tables::{Found, SortRow, find_sort_name, sort_at};
 
 // Which of the two, and its row.
-#[derive(Drop)]
+#[derive(Clone, Copy)]
 pub enum Made {
     Entity(usize),
     Record(usize),

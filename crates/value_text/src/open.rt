@@ -12,7 +12,7 @@ use tables::clamp;
 use words::Pair;
 
 // Of a value without another one in it how long its text is; of the others the place after what stands before the fields, which `)` ends, or before the members.
-#[derive(Drop)]
+#[derive(Clone, Copy)]
 pub enum Opened {
     Whole(usize),
     Fields {

@@ -1,4 +1,6 @@
 // Program valuelist: tables.txt and a reply to get-value on standard input, in; the listing, or the refusal's two lines, out.
+#![tactic(auto)]
+
 use commands::Form;
 
 fn main() {

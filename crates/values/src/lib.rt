@@ -1,1 +1,2 @@
 // No code: values, their text and their sorts, and the laws of both.
+#![tactic(auto)]

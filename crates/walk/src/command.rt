@@ -10,7 +10,7 @@ use definitions::{Measured, check_function, check_variable};
 use refusals::Refusal;
 use tables::{Found, clamp, count, find_function, find_variable, word};
 
-#[derive(Drop)]
+#[derive(Clone, Copy)]
 pub enum Noted {
     Skipped,
     Defines {

@@ -1,4 +1,6 @@
 // The walk over a reply's parts, a model's commands or get-value's pairs: each is checked, and of each name in the tables the last definition is noted.
+#![tactic(auto)]
+
 mod command;
 mod last;
 mod pair;

@@ -9,7 +9,7 @@ use arena::after;
 use commands::Form;
 use refusals::Refusal;
 
-#[derive(Drop)]
+#[derive(Clone, Copy)]
 pub enum Walked {
     Done,
     Refused(Refusal),

@@ -1,1 +1,2 @@
 // No code: that what is read has its sort.
+#![tactic(auto)]

@@ -6,14 +6,14 @@ ghost use Rattle.words.specs.Run.{parsed};
 use crate::pair::{Grown, Pair};
 use refusals::Refusal;
 
-#[derive(Drop)]
+#[derive(Clone, Copy)]
 pub enum Radix {
     Binary,
     Decimal,
     Hexadecimal,
 }
 
-#[derive(Drop)]
+#[derive(Clone, Copy)]
 pub enum Parsed {
     Number(Pair),
     Refused(Refusal),

@@ -1,4 +1,6 @@
 // Numbers of 128 bits travel as a pair of words that hands itself on.
+#![tactic(auto)]
+
 mod digits;
 mod low;
 mod pair;

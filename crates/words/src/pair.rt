@@ -6,20 +6,20 @@ ghost use Rattle.words.specs.Radix.{base_of};
 
 use crate::digits::Radix;
 
-#[derive(Drop)]
+#[derive(Clone, Copy)]
 pub struct Pair {
     pub low: u64,
     pub high: u64,
 }
 
 // A number that may have left 128 bits.
-#[derive(Drop)]
+#[derive(Clone, Copy)]
 pub enum Grown {
     Fit(Pair),
     Over,
 }
 
-#[derive(Drop)]
+#[derive(Clone, Copy)]
 pub enum Order {
     Less(Pair),
     Same(Pair),
@@ -27,7 +27,7 @@ pub enum Order {
 }
 
 // A word whose sign bit was looked at: with ones from that bit on, or as it was.
-#[derive(Drop)]
+#[derive(Clone, Copy)]
 pub enum Filled {
     Negative(u64),
     Positive,

@@ -1,0 +1,10 @@
+use native.Mathlib.Omega.{arith}
+use Rattle.decimals.proofs.Counts.{Counting, counting_start, counting_fits, counting_step, counting_end}
+use borrow.Author.Rules.{rules}
+use Rattle.decimals.proofs.digit_count.Given as goal
+
+abbrev pub invariant-loop-rest : goal.invariant-loop-rest
+invariant-loop-rest l = Counting l.number l.count l.rest
+
+abbrev pub decreases-loop-rest : goal.decreases-loop-rest
+decreases-loop-rest l = l.rest

@@ -1,0 +1,11 @@
+use Prim.Native.Nat.{◌-◌}
+use lib.ListN.{length}
+use Rattle.lent.proofs.Copies.{Copying, copying-start, copying-within, copying-step, copying-end}
+use borrow.Author.Rules.{rules}
+use Rattle.lent.proofs.copy.Given as goal
+
+abbrev pub invariant-loop-at : goal.invariant-loop-at
+invariant-loop-at l = Copying l.bytes l.initial.out l.out l.at
+
+abbrev pub decreases-loop-at : goal.decreases-loop-at
+decreases-loop-at l = length l.bytes - l.at

@@ -1,0 +1,13 @@
+use mathlib.Core.Path.{◌≡◌, refl}
+use Prim.Native.Nat.{◌+◌, ◌-◌}
+use lib.ListN.{length, drop}
+use Rattle.lexicon.specs.Span.{in_line, line_span}
+use Rattle.lexicon.proofs.Spans.{span_goes, span_stops, span_ends, line-ends, line-goes}
+use borrow.Author.Rules.{rules}
+use Rattle.lexicon.proofs.span.line_end.Given as goal
+
+abbrev pub invariant-loop-at : goal.invariant-loop-at
+invariant-loop-at l = l.start + line_span (drop l.start l.s) ≡ l.at + line_span (drop l.at l.s)
+
+abbrev pub decreases-loop-at : goal.decreases-loop-at
+decreases-loop-at l = length l.s - l.at

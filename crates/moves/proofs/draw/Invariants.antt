@@ -1,0 +1,10 @@
+use Prim.Native.Nat.{◌-◌}
+use Rattle.moves.proofs.Draws.{Drawing, drawing_start, drawing_next, drawing_end, drawing_none}
+use borrow.Author.Rules.{rules}
+use Rattle.moves.proofs.draw.Given as goal
+
+abbrev pub invariant-loop-i : goal.invariant-loop-i
+invariant-loop-i l = Drawing l.initial.s l.w l.j l.n l.s l.i
+
+abbrev pub decreases-loop-i : goal.decreases-loop-i
+decreases-loop-i l = l.n - l.i

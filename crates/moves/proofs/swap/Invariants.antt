@@ -1,0 +1,12 @@
+use lib.ListN.{length-set}
+use Prim.Native.Nat.{◌-◌}
+use native.Mathlib.Omega.{arith}
+use Rattle.moves.proofs.Turns.{Swapping, swapping_start, swapping_step, swapping_end}
+use borrow.Author.Rules.{rules}
+use Rattle.moves.proofs.swap.Given as goal
+
+abbrev pub invariant-loop-i : goal.invariant-loop-i
+invariant-loop-i l = Swapping l.initial.s l.k l.n l.s l.i
+
+abbrev pub decreases-loop-i : goal.decreases-loop-i
+decreases-loop-i l = l.n - l.i

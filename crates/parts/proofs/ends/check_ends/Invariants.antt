@@ -1,0 +1,12 @@
+use Prim.Native.Nat.{◌-◌}
+use native.Mathlib.Omega.{arith}
+use lib.ListN.{length}
+use Rattle.parts.proofs.Rises.{Checking, checking_start, checking_fall, checking_past, checking_step, checking_end}
+use borrow.Author.Rules.{rules}
+use Rattle.parts.proofs.ends.check_ends.Given as goal
+
+abbrev pub invariant-loop-at : goal.invariant-loop-at
+invariant-loop-at l = Checking l.size l.ends l.last l.at
+
+abbrev pub decreases-loop-at : goal.decreases-loop-at
+decreases-loop-at l = length l.ends - l.at

@@ -1,0 +1,12 @@
+use mathlib.Core.Path.{◌∙◌}
+use Prim.Native.Nat.{◌-◌}
+use lib.ListN.{length}
+use Rattle.parts.proofs.Trails.{Trailing, trailing_start, trailing_next, trailing_step, trailing_end}
+use borrow.Author.Rules.{rules}
+use Rattle.parts.proofs.lists.put_trailed.Given as goal
+
+abbrev pub invariant-loop-i : goal.invariant-loop-i
+invariant-loop-i l = Trailing l.separator l.string l.ends l.initial.out l.first l.start l.at l.out l.from l.to l.i
+
+abbrev pub decreases-loop-i : goal.decreases-loop-i
+decreases-loop-i l = length l.ends - l.i

@@ -1,0 +1,9 @@
+use Rattle.runs.proofs.Pieces.{Seeking, seeking_start, seeking_next, seeking_found, seeking_end}
+use borrow.Author.Rules.{rules}
+use Rattle.runs.proofs.ends.begin.Given as goal
+
+abbrev pub invariant-loop-p : goal.invariant-loop-p
+invariant-loop-p l = Seeking l.s l.from l.at l.p
+
+abbrev pub decreases-loop-p : goal.decreases-loop-p
+decreases-loop-p l = l.p

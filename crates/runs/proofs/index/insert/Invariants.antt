@@ -1,0 +1,15 @@
+use mathlib.Core.Path.{◌≡◌, refl, ◌∙◌}
+use Prim.Native.Nat.{◌-◌, suc}
+use native.Mathlib.Omega.{arith}
+use lib.ListN.{length}
+use Rattle.runs.specs.Pair.{pairs}
+use Rattle.runs.proofs.Pairs.{pairs-long}
+use Rattle.runs.proofs.Finds.{Shifting, shifting_start, shifting_next, shifting_end}
+use borrow.Author.Rules.{rules}
+use Rattle.runs.proofs.index.insert.Given as goal
+
+abbrev pub invariant-loop-i : goal.invariant-loop-i
+invariant-loop-i l = (length l.index ≡ length l.initial.index) × Shifting (pairs l.initial.index) l.at l.n l.p (pairs l.index) l.i l.carried
+
+abbrev pub decreases-loop-i : goal.decreases-loop-i
+decreases-loop-i l = suc l.n - l.i

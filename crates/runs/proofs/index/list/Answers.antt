@@ -1,0 +1,23 @@
+use Prim.Native.Nat.{◌-◌}
+use lib.ListN.{length}
+use Rattle.runs.proofs.Listings.{Listing, listing_start, listing-fits, listing-falls, listing-next, listing_full, listing-end}
+use borrow.Author.Rules.{rules}
+use Rattle.runs.proofs.index.list.Goals as goal
+
+pub loop-p-init : goal.loop-p-init
+loop-p-init c = search (listing_start)
+
+pub returns-then-n-ge-PLACES : goal.returns-then-n-ge-PLACES
+returns-then-n-ge-PLACES c = search (listing_full)
+
+pub settle-n-requires : goal.settle-n-requires
+settle-n-requires c = listing-fits _ _ _ _ _ _ c.loop-p.invariant c.loop-p-test.true c.if-n-ge-PLACES.false
+
+pub loop-p-smaller : goal.loop-p-smaller
+loop-p-smaller c = listing-falls _ _ _ _ _ _ _ _ _ c.loop-p.invariant c.loop-p-test.true c.settle-n.ensures c.settle-n.auto.index c.if-n-ge-PLACES.false c.after-p.ensures
+
+pub loop-p-preserved : goal.loop-p-preserved
+loop-p-preserved c = listing-next _ _ _ _ _ _ _ _ _ c.loop-p.invariant c.loop-p-test.true c.settle-n.ensures c.settle-n.auto.index c.if-n-ge-PLACES.false c.after-p.ensures
+
+pub returns : goal.returns
+returns c = search (listing-end)

@@ -1,0 +1,10 @@
+use Prim.Native.Nat.{◌-◌}
+use Rattle.runs.proofs.Listings.{Writing, writing_start, writing-room, writing-next, writing-full, writing-end}
+use borrow.Author.Rules.{rules}
+use Rattle.runs.proofs.index.write.Given as goal
+
+abbrev pub invariant-loop-i : goal.invariant-loop-i
+invariant-loop-i l = Writing l.s l.n l.initial.out l.out l.w l.i
+
+abbrev pub decreases-loop-i : goal.decreases-loop-i
+decreases-loop-i l = l.n - l.i

@@ -1,0 +1,12 @@
+use Prim.Native.Nat.{◌-◌}
+use native.Mathlib.Omega.{arith}
+use lib.ListN.{length}
+use Rattle.strings.proofs.Walks.{Measuring, measuring_start, measuring_surrogate, measuring_most, next-inside, measuring_step, measuring_end}
+use borrow.Author.Rules.{rules}
+use Rattle.strings.proofs.text.measure.Given as goal
+
+abbrev pub invariant-loop-at : goal.invariant-loop-at
+invariant-loop-at l = Measuring l.s l.total l.at
+
+abbrev pub decreases-loop-at : goal.decreases-loop-at
+decreases-loop-at l = length l.s - l.at

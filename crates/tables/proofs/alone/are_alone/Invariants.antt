@@ -1,0 +1,11 @@
+use mathlib.Core.Path.{refl}
+use Rattle.tables.specs.Layout.{count, name_at}
+use Rattle.tables.proofs.Marks.{Marked, marked_start, slot-within, here-within, free_alone, marked-fails, marked_next, marked-end}
+use borrow.Author.Rules.{rules}
+use Rattle.tables.proofs.alone.are_alone.Given as goal
+
+abbrev pub invariant-loop-left : goal.invariant-loop-left
+invariant-loop-left l = Marked (name_at l.names l.rows) (count l.rows) l.marks l.left
+
+abbrev pub decreases-loop-left : goal.decreases-loop-left
+decreases-loop-left l = l.left

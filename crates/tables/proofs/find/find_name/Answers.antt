@@ -1,0 +1,25 @@
+use mathlib.Core.Path.{◌≡◌, refl, sym, ◌∙◌}
+use native.Mathlib.Omega.{arith}
+use Prim.Native.Nat.{◌-◌}
+use Rattle.arena.specs.Text.{same_text}
+use Rattle.tables.specs.Layout.{name_at, count}
+use Rattle.tables.specs.Search.{first_row}
+use Rattle.tables.proofs.Searches.{first-here, first-later, first-none}
+use borrow.Author.Tests.{not-true}
+use borrow.Author.Rules.{rules}
+use Rattle.tables.proofs.find.find_name.Goals as goal
+
+pub loop-i-init : goal.loop-i-init
+loop-i-init c = (c.count-rows_there.ensures, refl)
+
+pub loop-i-preserved-then-not-may_be_named : goal.loop-i-preserved-then-not-may_be_named
+loop-i-preserved-then-not-may_be_named c = let h = c.loop-i.invariant in (h.0, h.1 ∙ first-later _ _ _ (omega (arith, h.0)) (c.may_be_named.ensures (c.if-not-may_be_named.true)))
+
+pub returns-then-is_named : goal.returns-then-is_named
+returns-then-is_named c = let h = c.loop-i.invariant in sym (h.1 ∙ first-here _ _ _ (omega (arith, h.0)) (sym c.is_named.ensures ∙ c.if-is_named.true))
+
+pub loop-i-preserved : goal.loop-i-preserved
+loop-i-preserved c = let h = c.loop-i.invariant in (h.0, h.1 ∙ first-later _ _ _ (omega (arith, h.0)) (sym c.is_named.ensures ∙ c.if-is_named.false))
+
+pub returns : goal.returns
+returns c = let h = c.loop-i.invariant in sym (h.1 ∙ first-none _ _ _ (omega (arith, h.0)))

@@ -1,0 +1,12 @@
+use mathlib.Core.Path.{ap}
+use Prim.Native.Nat.{ℕ}
+use lib.Dec.{ltb}
+use Rattle.tables.proofs.Answers.{and_no, and_yes}
+use borrow.Author.Rules.{rules}
+use Rattle.tables.proofs.rules.is_variable.Goals as goal
+
+pub returns-then-not-is_name : goal.returns-then-not-is_name
+returns-then-not-is_name c = and_no _ _ _ c.is_name.ensures c.if-not-is_name.true
+
+pub returns : goal.returns
+returns c = and_yes _ _ _ c.is_name.ensures c.if-not-is_name.false _ (ap (λ (w : ℕ). ltb w c.args.sorts) c.word.ensures)

@@ -1,0 +1,22 @@
+use Prim.Native.Nat.{◌-◌}
+use native.Mathlib.Omega.{arith}
+use lib.ListN.{length}
+use Rattle.tables.proofs.Slots.{Folded, folded_start, folded_next, folded_end}
+use borrow.Author.Rules.{rules}
+use Rattle.tables.proofs.slot.slot_from.Goals as goal
+
+-- LOST overflow-cast-next-slot
+-- cast-next-slot : tie.Need-overflow-cast-next-slot invariant-loop decreases-loop
+-- cast-next-slot c = record { fits = omega (arith, c.shared-slice-known2.given c.before.before.loop.i) }
+
+pub loop-i-init : goal.loop-i-init
+loop-i-init c = folded_start _ _ c.requires
+
+pub next_slot-slot-requires : goal.next_slot-slot-requires
+next_slot-slot-requires c = c.loop-i.invariant.below
+
+pub loop-i-preserved : goal.loop-i-preserved
+loop-i-preserved c = folded_next _ _ _ _ c.loop-i.invariant c.loop-i-test.true _ c.next_slot-slot.ensures
+
+pub returns : goal.returns
+returns c = folded_end _ _ _ _ c.loop-i.invariant c.loop-i-test.false

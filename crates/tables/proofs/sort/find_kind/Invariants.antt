@@ -1,0 +1,15 @@
+use mathlib.Core.Path.{◌≡◌, refl, sym, ◌∙◌}
+use native.Mathlib.Omega.{arith}
+use Prim.Native.Nat.{◌-◌}
+use Rattle.tables.specs.Layout.{count}
+use Rattle.tables.specs.View.{is_kind}
+use Rattle.tables.specs.Search.{first_row}
+use Rattle.tables.proofs.Searches.{first-here, first-later, first-none}
+use borrow.Author.Rules.{rules}
+use Rattle.tables.proofs.sort.find_kind.Given as goal
+
+abbrev pub invariant-loop-i : goal.invariant-loop-i
+invariant-loop-i l = (l.rows_there ≡ count l.sorts) × (first_row (is_kind l.sorts l.kind l.number) l.from (count l.sorts - l.from) ≡ first_row (is_kind l.sorts l.kind l.number) l.i (count l.sorts - l.i))
+
+abbrev pub decreases-loop-i : goal.decreases-loop-i
+decreases-loop-i l = l.rows_there - l.i
