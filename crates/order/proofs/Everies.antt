@@ -56,6 +56,7 @@ module _ {A : Type 0} where
   pub every-among : (P : A → Type 0) (xs : List A) → Every P xs → (x : A) → Among x xs → P x
   every-among P (y ∷ xs) (also p ps) x (Memᴰ.head e) = subst P (sym e) p
   every-among P (y ∷ xs) (also p ps) x (Memᴰ.tail m) = every-among P xs ps x m
+  every-among P [] _ x x5 = elim x5 [ ]
 
   pub among-every : (P : A → Type 0) (xs : List A) → ((x : A) → Among x xs → P x) → Every P xs
   among-every P [] f = none

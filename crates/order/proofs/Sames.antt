@@ -68,6 +68,7 @@ module _ {A : Type 0} (key : A → List ℕ) (last : Bool) where
     arranged-among {x} (y ∷ xs) (also p ps) (Memᴰ.head e) = insert-among x y (arranged key last xs) p (every-arranged key last P xs ps) (Memᴰ.head e)
     arranged-among {x} (y ∷ xs) (also p ps) (Memᴰ.tail m) =
         insert-among x y (arranged key last xs) p (every-arranged key last P xs ps) (Memᴰ.tail (arranged-among xs ps m))
+    arranged-among {x = x} [] _ x4 = elim x4 [ ]
 
     -- lists of the same elements are arranged as one
     pub arranged-same : (xs ys : List A) → Every P xs → Every P ys → ((x : A) → Among x xs → Among x ys) → ((y : A) → Among y ys → Among y xs)

@@ -3,14 +3,6 @@ use native.Mathlib.Omega.{arith}
 use Rattle.runs.proofs.Pairs.{pairs-within, place_read}
 use Rattle.runs.proofs.places.place.Goals as goal
 
--- LOST overflow-cast-result
--- cast-result : tie.Need-overflow-cast-result
--- cast-result c = record { fits = omega (arith, (c.shared-slice-known.given (2 * c.before.args.i)).fits) }
-
--- LOST overflow-cast-result-2
--- cast-result-2 : tie.Need-overflow-cast-result-2
--- cast-result-2 c = record { fits = omega (arith, (c.before.shared-slice-known.given (2 * c.before.before.args.i + 1)).fits) }
-
 pub overflow_mul-result : goal.overflow_mul-result
 overflow_mul-result c = record { fits = omega (arith, pairs-within c.args.index.now c.args.i c.requires) }
 

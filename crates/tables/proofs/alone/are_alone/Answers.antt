@@ -1,3 +1,4 @@
+use Rattle.std.proofs.Common.{ap, not}
 use mathlib.Core.Path.{refl}
 use Rattle.tables.specs.Layout.{count, name_at}
 use Rattle.tables.proofs.Marks.{Marked, marked_start, slot-within, here-within, free_alone, marked-fails, marked_next, marked-end}
@@ -14,13 +15,13 @@ pub is_alone-requires : goal.is_alone-requires
 is_alone-requires c = (here-within _ _ _ _ c.loop-left.invariant c.loop-left-test.true, free_alone _ _ _ _ c.loop-left.invariant c.loop-left-test.true _ _ c.name_slot-slot.ensures refl)
 
 pub returns-then-not-is_alone : goal.returns-then-not-is_alone
-returns-then-not-is_alone c = marked-fails _ _ _ _ c.loop-left.invariant c.loop-left-test.true _ c.is_alone.ensures c.if-not-is_alone.true
+returns-then-not-is_alone c = marked-fails _ _ _ _ c.loop-left.invariant c.loop-left-test.true _ c.is_alone.ensures (ap not c.if-not-is_alone.true)
 
 pub bounds-marks-slot-in-loop-left : goal.bounds-marks-slot-in-loop-left
 bounds-marks-slot-in-loop-left c = let a = c.args in slot-within (name_at a.names.now a.rows.now) (count a.rows.now) _ _ c.name_slot-slot.ensures
 
 pub loop-left-preserved : goal.loop-left-preserved
-loop-left-preserved c = marked_next _ _ _ _ c.loop-left.invariant c.loop-left-test.true _ c.is_alone.ensures c.if-not-is_alone.false _ c.name_slot-slot.ensures
+loop-left-preserved c = marked_next _ _ _ _ c.loop-left.invariant c.loop-left-test.true _ c.is_alone.ensures (ap not c.if-not-is_alone.false) _ c.name_slot-slot.ensures
 
 pub returns : goal.returns
 returns c = marked-end _ _ _ _ c.loop-left.invariant c.loop-left-test.false

@@ -1,3 +1,4 @@
+use Rattle.std.proofs.Common.{ap, not}
 use mathlib.Core.Path.{refl}
 use mathlib.Core.List.{[]}
 use Rattle.tables.specs.Layout.{count, sort_at}
@@ -17,13 +18,13 @@ pub is_alone_sort-requires : goal.is_alone_sort-requires
 is_alone_sort-requires c = (here-within _ _ _ _ c.loop-left.invariant c.loop-left-test.true, free_alone _ _ _ _ c.loop-left.invariant c.loop-left-test.true _ _ c.sort_slot-slot.ensures refl)
 
 pub returns-then-not-is_alone_sort : goal.returns-then-not-is_alone_sort
-returns-then-not-is_alone_sort c = marked-fails _ _ _ _ c.loop-left.invariant c.loop-left-test.true _ c.is_alone_sort.ensures c.if-not-is_alone_sort.true
+returns-then-not-is_alone_sort c = marked-fails _ _ _ _ c.loop-left.invariant c.loop-left-test.true _ c.is_alone_sort.ensures (ap not c.if-not-is_alone_sort.true)
 
 pub bounds-marks-slot-in-loop-left : goal.bounds-marks-slot-in-loop-left
 bounds-marks-slot-in-loop-left c = let a = c.args in slot-within (λ k. identity (sort_at (lent_sorts a.sorts.now [] a.names.now) k)) (count a.sorts.now) _ _ c.sort_slot-slot.ensures
 
 pub loop-left-preserved : goal.loop-left-preserved
-loop-left-preserved c = marked_next _ _ _ _ c.loop-left.invariant c.loop-left-test.true _ c.is_alone_sort.ensures c.if-not-is_alone_sort.false _ c.sort_slot-slot.ensures
+loop-left-preserved c = marked_next _ _ _ _ c.loop-left.invariant c.loop-left-test.true _ c.is_alone_sort.ensures (ap not c.if-not-is_alone_sort.false) _ c.sort_slot-slot.ensures
 
 pub returns : goal.returns
 returns c = marked-end _ _ _ _ c.loop-left.invariant c.loop-left-test.false

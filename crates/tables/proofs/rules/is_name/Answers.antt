@@ -1,3 +1,4 @@
+use Rattle.std.proofs.Common.{not}
 use mathlib.Core.Path.{ap, ◌∙◌}
 use Rattle.tables.proofs.Answers.{and_no, and_yes}
 use mathlib.Core.List.{List}
@@ -9,7 +10,7 @@ use borrow.Author.Rules.{rules}
 use Rattle.tables.proofs.rules.is_name.Goals as goal
 
 pub returns-then-not-is_inside : goal.returns-then-not-is_inside
-returns-then-not-is_inside c = let a = c.args in and_no _ _ _ (inside-name a.names.now a.rows.now a.row _ _ _ c.word-first.ensures c.word-size.ensures c.is_inside.ensures) c.if-not-is_inside.true
+returns-then-not-is_inside c = let a = c.args in and_no _ _ _ (inside-name a.names.now a.rows.now a.row _ _ _ c.word-first.ensures c.word-size.ensures c.is_inside.ensures) (ap not c.if-not-is_inside.true)
 
 pub returns : goal.returns
-returns c = let a = c.args in and_yes _ _ _ (inside-name a.names.now a.rows.now a.row _ _ _ c.word-first.ensures c.word-size.ensures c.is_inside.ensures) c.if-not-is_inside.false _ (c.is_right.ensures ∙ ap (λ (s : List ℕ). name_right s) (clamps_name a.names.now a.rows.now a.row _ _ _ c.word-first.ensures c.word-size.ensures c.clamp-range.ensures))
+returns c = let a = c.args in and_yes _ _ _ (inside-name a.names.now a.rows.now a.row _ _ _ c.word-first.ensures c.word-size.ensures c.is_inside.ensures) (ap not c.if-not-is_inside.false) _ (c.is_right.ensures ∙ ap (λ (s : List ℕ). name_right s) (clamps_name a.names.now a.rows.now a.row _ _ _ c.word-first.ensures c.word-size.ensures c.clamp-range.ensures))

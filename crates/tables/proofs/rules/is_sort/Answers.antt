@@ -1,3 +1,4 @@
+use Rattle.std.proofs.Common.{ap, not}
 use Rattle.tables.proofs.ByKind.{sort-zero, sort-plain, sort-width, sort-refers, sort-unknown, sort-unnamed, sort-entity, sort_record}
 use borrow.Author.Rules.{rules}
 use Rattle.tables.proofs.rules.is_sort.Goals as goal
@@ -18,10 +19,10 @@ pub returns-then-kind-gt-LAST_KIND : goal.returns-then-kind-gt-LAST_KIND
 returns-then-kind-gt-LAST_KIND c = let a = c.args in sort-unknown a.sorts.now a.fields.now a.names.now a.row _ c.word-kind.ensures c.if-kind-gt-LAST_KIND.true
 
 pub returns-then-not-is_own : goal.returns-then-not-is_own
-returns-then-not-is_own c = let a = c.args in sort-unnamed a.sorts.now a.fields.now a.names.now a.row _ c.word-kind.ensures _ c.word-number.ensures _ c.is_own.ensures c.if-not-is_own.true c.if-kind-lt-ENTITY.false c.if-kind-gt-LAST_KIND.false
+returns-then-not-is_own c = let a = c.args in sort-unnamed a.sorts.now a.fields.now a.names.now a.row _ c.word-kind.ensures _ c.word-number.ensures _ c.is_own.ensures (ap not c.if-not-is_own.true) c.if-kind-lt-ENTITY.false c.if-kind-gt-LAST_KIND.false
 
 pub returns-then-kind-eq-ENTITY : goal.returns-then-kind-eq-ENTITY
-returns-then-kind-eq-ENTITY c = let a = c.args in sort-entity a.sorts.now a.fields.now a.names.now a.row _ c.word-kind.ensures _ c.word-number.ensures _ c.is_own.ensures c.if-not-is_own.false c.if-kind-eq-ENTITY.true
+returns-then-kind-eq-ENTITY c = let a = c.args in sort-entity a.sorts.now a.fields.now a.names.now a.row _ c.word-kind.ensures _ c.word-number.ensures _ c.is_own.ensures (ap not c.if-not-is_own.false) c.if-kind-eq-ENTITY.true
 
 pub returns : goal.returns
-returns c = let a = c.args in sort_record a.sorts.now a.fields.now a.names.now a.row _ c.word-kind.ensures _ c.word-number.ensures _ c.is_own.ensures c.if-not-is_own.false c.if-kind-lt-ENTITY.false c.if-kind-gt-LAST_KIND.false c.if-kind-eq-ENTITY.false _ c.word.ensures _ c.are_fields.ensures
+returns c = let a = c.args in sort_record a.sorts.now a.fields.now a.names.now a.row _ c.word-kind.ensures _ c.word-number.ensures _ c.is_own.ensures (ap not c.if-not-is_own.false) c.if-kind-lt-ENTITY.false c.if-kind-gt-LAST_KIND.false c.if-kind-eq-ENTITY.false _ c.word.ensures _ c.are_fields.ensures

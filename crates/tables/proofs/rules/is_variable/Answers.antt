@@ -1,3 +1,4 @@
+use Rattle.std.proofs.Common.{not}
 use mathlib.Core.Path.{ap}
 use Prim.Native.Nat.{ℕ}
 use lib.Dec.{ltb}
@@ -6,7 +7,7 @@ use borrow.Author.Rules.{rules}
 use Rattle.tables.proofs.rules.is_variable.Goals as goal
 
 pub returns-then-not-is_name : goal.returns-then-not-is_name
-returns-then-not-is_name c = and_no _ _ _ c.is_name.ensures c.if-not-is_name.true
+returns-then-not-is_name c = and_no _ _ _ c.is_name.ensures (ap not c.if-not-is_name.true)
 
 pub returns : goal.returns
-returns c = and_yes _ _ _ c.is_name.ensures c.if-not-is_name.false _ (ap (λ (w : ℕ). ltb w c.args.sorts) c.word.ensures)
+returns c = and_yes _ _ _ c.is_name.ensures (ap not c.if-not-is_name.false) _ (ap (λ (w : ℕ). ltb w c.args.sorts) c.word.ensures)

@@ -5,10 +5,6 @@ use Rattle.tables.proofs.Slots.{Folded, folded_start, folded_next, folded_end}
 use borrow.Author.Rules.{rules}
 use Rattle.tables.proofs.slot.slot_from.Goals as goal
 
--- LOST overflow-cast-next-slot
--- cast-next-slot : tie.Need-overflow-cast-next-slot invariant-loop decreases-loop
--- cast-next-slot c = record { fits = omega (arith, c.shared-slice-known2.given c.before.before.loop.i) }
-
 pub loop-i-init : goal.loop-i-init
 loop-i-init c = folded_start _ _ c.requires
 
