@@ -3,7 +3,7 @@
 use mathlib.Core.Path.{◌≡◌, refl, sym, ◌∙◌, subst}
 use mathlib.Core.Bool.{Bool, true, false, cond, ◌&&◌}
 use mathlib.Core.List.{List, [], ◌∷◌, ◌++◌}
-use Prim.Native.Nat.{ℕ, zero, suc, ◌*◌, ◌^◌, ◌≤◌, ◌<◌}
+use Prim.Native.Nat.{◌-◌, ℕ, zero, suc, ◌*◌, ◌^◌, ◌≤◌, ◌<◌}
 use native.Mathlib.Omega.{arith}
 use lib.Dec.{eqb, ltb}
 use lib.ListN.{length, take, drop, length-take, length-drop}
@@ -176,7 +176,7 @@ lex-sound : (k : ℕ) (s : List ℕ) → length s ≤ input_limit → SoundLexed
 unfolding lex_after
 lex-sound zero [] h = tt
 lex-sound (suc k) [] h = tt
-lex-sound zero (b ∷ bs) h = emit-sound (piece_at (b ∷ bs)) _ (at-sound (b ∷ bs) h) (lex-sound _ bs (omega arith))
+lex-sound zero (b ∷ bs) h = emit-sound (piece_at (b ∷ bs)) _ (at-sound (b ∷ bs) h) (lex-sound ((lexeme_at (b ∷ bs)).width - 1) bs (omega arith))
 lex-sound (suc k) (b ∷ bs) h = lex-sound k bs (omega arith)
 
 snoc-sound : (ks : Trees) (t : Tree) → SoundAll ks → Sound t → SoundAll (snoc ks t)

@@ -80,7 +80,7 @@ unfolding spelled_by number_by
 after-u [] = refl
 after-u (b ∷ bs) =
     by_test (eqb b 0x7B)
-    (λ h. rw (eqb-true b 0x7B h) (in_braces bs))
+    (λ h. subst (λ (x : ℕ). as_character (spelled_by forms 0x5C (0x75 ∷ x ∷ bs)) ≡ escaped (after_u (x ∷ bs))) (sym (eqb-true b 0x7B h)) (in_braces bs))
     (λ h. with_digits b bs h ∙ rw h)
 
 after-backslash : (s : List ℕ) → as_character (spelled_by forms 0x5C s) ≡ escaped (escape s)

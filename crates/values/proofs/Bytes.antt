@@ -33,6 +33,7 @@ member-spanned : (row : List Span) (rs : List (List Span)) → Memᴰ row rs →
 unfolding all
 member-spanned row (r ∷ rs) (Memᴰ.head e) p = ap spanned e ∙ both_left (spanned r) (all spanned rs) p
 member-spanned row (r ∷ rs) (Memᴰ.tail m) p = member-spanned row rs m (both_right (spanned r) (all spanned rs) p)
+member-spanned row [] x'' p = elim x'' [ ]
 
 rows-spanned : all spanned rows ≡ true
 unfolding all

@@ -45,11 +45,13 @@ of_one : {A : Type 0} (test : A → Bool) (xs : List A) (x : A) → Among x xs �
 unfolding any
 of_one test (y ∷ xs) x (Memᴰ.head e) h = let k : test y ≡ true = ap test (sym e) ∙ h in rw k refl
 of_one test (y ∷ xs) x (Memᴰ.tail m) h = by_test (test y) (λ k. rw k refl) (λ k. rw k (of_one test xs x m h))
+of_one {A = A} test [] x x4 h = elim x4 [ ]
 
 each_of : {A : Type 0} (test : A → Bool) (xs : List A) → all test xs ≡ true → (x : A) → Among x xs → test x ≡ true
 unfolding all
 each_of test (y ∷ xs) e x (Memᴰ.head k) = ap test k ∙ both_left (test y) (all test xs) e
 each_of test (y ∷ xs) e x (Memᴰ.tail m) = each_of test xs (both_right (test y) (all test xs) e) x m
+each_of {A = A} test [] e x x4 = elim x4 [ ]
 
 of-each : {A : Type 0} (test : A → Bool) (xs : List A) → ((x : A) → Among x xs → test x ≡ true) → all test xs ≡ true
 unfolding all

@@ -52,11 +52,13 @@ among-normals : (vs : Values) (v : Value) → Among v (listed vs) → Among (nor
 unfolding normal
 among-normals (v_cons u vs) v (Memᴰ.head e) = Memᴰ.head (ap normal e)
 among-normals (v_cons u vs) v (Memᴰ.tail m) = Memᴰ.tail (among-normals vs v m)
+among-normals v_nil v x' = elim x' [ ]
 
 normals-among : (vs : Values) (x : Value) → Among x (listed (normals vs)) → (v : Value) × Among v (listed vs) × (x ≡ normal v)
 unfolding normal
 normals-among (v_cons u vs) x (Memᴰ.head e) = (u, Memᴰ.head refl, e)
 normals-among (v_cons u vs) x (Memᴰ.tail m) = let a = normals-among vs x m in (a.0, Memᴰ.tail a.1, a.2)
+normals-among v_nil x x3 = elim x3 [ ]
 
 -- each of the one is, as the value that it is, among the other
 abbrev pub Within : Values → Values → Type 0

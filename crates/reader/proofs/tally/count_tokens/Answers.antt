@@ -1,0 +1,50 @@
+use borrow.Author.Rules.{rules}
+use mathlib.Core.Path.{sym, ◌∙◌, subst}
+use Prim.Native.Nat.{◌-◌}
+use native.Mathlib.Omega.{arith}
+use lib.ListN.{length}
+use Rattle.tokens.proofs.Lexes.{found_some, found_within, found-there, bytes_of}
+use Rattle.reader.proofs.Sofar.{Sofar, sofar-past, sofar-start, sofar-step, sofar-fault, sofar-end, ample}
+use Rattle.reader.proofs.tally.count_tokens.Goals as goal
+
+pub begin-scan-requires : goal.begin-scan-requires
+begin-scan-requires c = tt
+
+pub loop-at-init : goal.loop-at-init
+loop-at-init c = subst (Sofar c.args.s.now 0) (sym c.begin-scan.ensures) (sofar-start c.args.s.now)
+
+pub lexeme_at-found-requires : goal.lexeme_at-found-requires
+lexeme_at-found-requires c = (c.requires.0, c.loop-at-test.true)
+
+pub overflow_add-from : goal.overflow_add-from
+overflow_add-from c = let a = c.args in omega (arith, c.requires.1, found_within a.s.now c.loop-at.at _ c.loop-at-test.true c.lexeme_at-found.ensures, found-there a.s.now c.loop-at.at _ c.loop-at-test.true c.lexeme_at-found.ensures)
+
+pub overflow_add-end : goal.overflow_add-end
+overflow_add-end c = let a = c.args in omega (arith, c.requires.1, found_within a.s.now c.loop-at.at _ c.loop-at-test.true c.lexeme_at-found.ensures, found-there a.s.now c.loop-at.at _ c.loop-at-test.true c.lexeme_at-found.ensures)
+
+pub slice_bounds-turn-count : goal.slice_bounds-turn-count
+slice_bounds-turn-count c = omega arith
+
+pub slice_bounds-turn-start : goal.slice_bounds-turn-start
+slice_bounds-turn-start c = omega arith
+
+pub slice_bounds-turn-end : goal.slice_bounds-turn-end
+slice_bounds-turn-end c = let a = c.args in omega (arith, found_within a.s.now c.loop-at.at _ c.loop-at-test.true c.lexeme_at-found.ensures, found-there a.s.now c.loop-at.at _ c.loop-at-test.true c.lexeme_at-found.ensures)
+
+pub turn-next-requires : goal.turn-next-requires
+turn-next-requires c = let a = c.args in ample a.s.now c.loop-at.at c.loop-at.scan c.lexeme_at-found.result c.loop-at.invariant (bytes_of a.s.now (λ i. (c.shared_slice_known-1.given i).fits)) c.loop-at-test.true c.lexeme_at-found.ensures c.requires.1
+
+pub returns-in_default : goal.returns-in_default
+returns-in_default c = let a = c.args in sofar-fault a.s.now c.loop-at.at c.loop-at.scan c.lexeme_at-found.result c.loop-at.invariant (bytes_of a.s.now (λ i. (c.shared_slice_known-1.given i).fits)) c.loop-at-test.true c.lexeme_at-found.ensures c.turn-next.result _ c.in_default.is c.turn-next.ensures
+
+pub overflow_add-at : goal.overflow_add-at
+overflow_add-at c = omega (arith, c.requires.1, found-there c.args.s.now c.loop-at.at _ c.loop-at-test.true c.lexeme_at-found.ensures)
+
+pub loop-at-smaller : goal.loop-at-smaller
+loop-at-smaller c = let a = c.args in omega (arith, c.past_blanks-at.ensures, c.loop-at-test.true, found_some a.s.now c.loop-at.at _ c.loop-at-test.true c.lexeme_at-found.ensures, found-there a.s.now c.loop-at.at _ c.loop-at-test.true c.lexeme_at-found.ensures)
+
+pub loop-at-preserved : goal.loop-at-preserved
+loop-at-preserved c = let a = c.args in sofar-past _ _ _ _ (sofar-step a.s.now c.loop-at.at c.loop-at.scan c.lexeme_at-found.result c.loop-at.invariant (bytes_of a.s.now (λ i. (c.shared_slice_known-1.given i).fits)) c.loop-at-test.true c.lexeme_at-found.ensures _ (sym c.in-Scanned.is ∙ c.turn-next.ensures)) c.past_blanks-at.ensures
+
+pub returns : goal.returns
+returns c = sofar-end c.args.s.now c.loop-at.at c.loop-at.scan c.loop-at.invariant c.loop-at-test.false

@@ -1,0 +1,9 @@
+use mathlib.Core.Path.{refl, subst}
+use mathlib.Core.List.{List}
+use Prim.Native.Nat.{ℕ}
+use Rattle.sorts.specs.Reads.{WordSort}
+use borrow.Author.Rules.{rules}
+use Rattle.sorts.proofs.sort.word_at.Goals as goal
+
+pub returns : goal.returns
+returns c = let a = c.args in subst (λ (s : List ℕ). WordSort a.sorts.now a.names.now s c.sort_word.result) (c.clamp-range.ensures.holds a.text.now refl) c.sort_word.ensures

@@ -1,0 +1,21 @@
+use mathlib.Core.Path.{sym, ap, ◌∙◌}
+use lib.Seq.{sets}
+use Prim.Native.Nat.{ℕ, ◌*◌}
+use mathlib.Core.List.{List}
+use Rattle.tables.specs.Layout.{stride}
+use Rattle.tables_text.specs.Parse.{variable_in}
+use Rattle.tables_text.specs.Line.{variable_line}
+use Rattle.tables_text.specs.Words.{variable_words}
+use Rattle.tables_text.proofs.Spelled.{variable-sound}
+use Rattle.tables_text.proofs.Walks.{told-no-variable, row-variable, lined-past, lined-other, lined-row}
+use borrow.Author.Rules.{rules}
+use Rattle.tables_text.proofs.walk.variable_line.Goals as goal
+
+pub returns-then-text-end : goal.returns-then-text-end
+returns-then-text-end c = let a = c.args in lined-past variable_in variable_line variable_words variable-sound a.text.now _ _ c.requires.0 c.end_at-end.ensures _ a.table.now c.if-text-end.true
+
+pub returns-in_default : goal.returns-in_default
+returns-in_default c = let a = c.args in lined-other variable_in variable_line variable_words variable-sound a.text.now _ _ c.requires.0 c.end_at-end.ensures _ a.table.now c.if-text-end.false (told-no-variable _ (sym c.in_default.is ∙ c.variable_in-found.ensures))
+
+pub returns : goal.returns
+returns c = let a = c.args in let t = row-variable a.at _ _ _ (sym c.in-Row.is ∙ c.variable_in-found.ensures) in lined-row variable_in variable_line variable_words variable-sound a.text.now _ _ c.requires.0 c.end_at-end.ensures _ a.table.now c.if-text-end.false t.0 t.1 _ (c.put_row.ensures ∙ ap (λ (w : List ℕ). sets a.table.now (a.row * stride) w) t.2)

@@ -1,0 +1,25 @@
+use Prim.Native.Nat.{◌-◌}
+use mathlib.Core.Path.{refl}
+use Rattle.tables.specs.Rules.{row_limit}
+use Rattle.tables_text.specs.Parse.{variable_in}
+use Rattle.tables_text.specs.Line.{variable_line}
+use Rattle.tables_text.specs.Words.{variable_words}
+use Rattle.tables_text.proofs.Spelled.{variable-sound}
+use Rattle.tables_text.proofs.Walks.{Walking, walking_start, walking_full, walking_room, walking_stop, walking_long, walking_step}
+use borrow.Author.Rules.{rules}
+use Rattle.tables_text.proofs.walk.variable_rows.Goals as goal
+
+pub loop-row-init : goal.loop-row-init
+loop-row-init c = walking_start variable_in variable_line variable_words variable-sound c.args.text.now c.args.table.now _ c.requires.0
+
+pub variable_line-line-requires : goal.variable_line-line-requires
+variable_line-line-requires c = let a = c.args in (c.loop-row.invariant.within, walking_room variable_in variable_line variable_words variable-sound (λ at x. refl) a.text.now a.table.now _ _ _ _ c.loop-row.invariant c.requires.1 c.loop-row-test.true)
+
+pub returns-in_default : goal.returns-in_default
+returns-in_default c = let a = c.args in walking_stop variable_in variable_line variable_words variable-sound (λ at x. refl) a.text.now a.table.now _ _ _ _ c.loop-row.invariant c.requires.1 c.loop-row-test.true _ _ c.variable_line-line.ensures c.in_default.is
+
+pub loop-row-preserved : goal.loop-row-preserved
+loop-row-preserved c = let a = c.args in walking_step variable_in variable_line variable_words variable-sound (λ at x. refl) a.text.now a.table.now _ _ _ _ c.loop-row.invariant c.requires.1 c.loop-row-test.true _ _ c.variable_line-line.ensures _ c.in-Next.is
+
+pub returns : goal.returns
+returns c = let a = c.args in walking_full variable_in variable_line variable_words variable-sound (λ at x. refl) a.text.now a.table.now _ _ _ _ c.loop-row.invariant c.requires.1 c.loop-row-test.false
