@@ -47,6 +47,7 @@ set-app T a e t l vs m h = go t l.row l.value (reading T true a e t l m) (ap for
     go (symbol s) row v (r_false q) h = absurd (omega arith)
     go (symbol s) row v (r-member i m q p) h = absurd (omega arith)
     go (app us) row v r h = (us, refl)
+    go (Rattle.arena.specs.Tree.numeral _) row v r h = elim r [ ]
 
 -- the shapes of sets
 abbrev set_shape : Shape → Bool

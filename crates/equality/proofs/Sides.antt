@@ -132,6 +132,14 @@ counts_differ T a b nil (cons x xs) v_nil (v_cons w ws) l_nil (l_cons f m q k) n
 counts_differ T a b (cons u us) nil (v_cons v vs) v_nil (l_cons e l p h) l_nil n = refl
 counts_differ T a b (cons u us) (cons x xs) (v_cons v vs) (v_cons w ws) (l_cons e l p h) (l_cons f m q k) n =
     let z : same_fields vs ws ≡ false = counts_differ T a b us xs vs ws h k (λ y. n (ap suc y)) in ap (λ (b : Bool). same v w && b) z ∙ and-false (same v w)
+counts_differ T a b nil nil v_nil (v_cons w ws) _ x13 n = elim x13 [ ]
+counts_differ T a b nil nil (v_cons v vs) ws x10 _ n = elim x10 [ ]
+counts_differ T a b nil (cons x xs) v_nil v_nil _ x13 n = elim x13 [ ]
+counts_differ T a b nil (cons x xs) (v_cons v vs) ws x11 _ n = elim x11 [ ]
+counts_differ T a b (cons u us) nil v_nil ws x8 _ n = elim x8 [ ]
+counts_differ T a b (cons u us) nil (v_cons v vs) (v_cons w ws) _ x12 n = elim x12 [ ]
+counts_differ T a b (cons u us) (cons x xs) v_nil ws x10 _ n = elim x10 [ ]
+counts_differ T a b (cons u us) (cons x xs) (v_cons v vs) v_nil _ x14 n = elim x14 [ ]
 
 module _ (right : Form) (row first many other second long : ℕ) (d : right ≡ Form.Record other second long) where
   pub rows_differ : (row ≡ other → ⊥) → Anywhere (Form.Record row first many) right (Compared.Told false)

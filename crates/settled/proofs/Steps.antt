@@ -5,7 +5,6 @@ use mathlib.Core.Bool.{Bool, true, false, cond, true≢false}
 use mathlib.Core.List.{List, [], ◌∷◌}
 use Prim.Native.Nat.{ℕ, ◌+◌, ◌≤◌, ◌<◌}
 use native.Mathlib.Omega.{arith}
-use types.Run.{OneOf, miss}
 use denote.Enum.Declared.{tag_of}
 use Rattle.ground.specs.Bytes.{bytes}
 use Rattle.arena.specs.Node.{after_at}
@@ -93,10 +92,10 @@ module _ (ms ws ts : List ℕ) (i : ℕ) (p : Parts) (parts : PartsAt ws i p) wh
   step-atom e t s = not-list t (subst (PartsAt ws i) e parts ts t s)
 
   module _ (f : Found) (shown : ShapeAt ws ts i f) where
-    other-shape : OneOf (0 ∷ 1 ∷ 2 ∷ 3 ∷ 4 ∷ 5 ∷ 6 ∷ 7 ∷ 8 ∷ 9 ∷ 10 ∷ 11 ∷ 12 ∷ []) (tag_of FoundType.the_type f) → (s : Shape) → Shows ws ts f s → ite_shape s ≡ false
+    other-shape : ((condition left right : ℕ) → f ≡ Found.Ite condition left right → ⊥) → (s : Shape) → Shows ws ts f s → ite_shape s ≡ false
     other-shape h s g = go f h s g
       where
-        go : (f : Found) → OneOf (0 ∷ 1 ∷ 2 ∷ 3 ∷ 4 ∷ 5 ∷ 6 ∷ 7 ∷ 8 ∷ 9 ∷ 10 ∷ 11 ∷ 12 ∷ []) (tag_of FoundType.the_type f) → (s : Shape) → Shows ws ts f s → ite_shape s ≡ false
+        go : (f : Found) → ((condition left right : ℕ) → f ≡ Found.Ite condition left right → ⊥) → (s : Shape) → Shows ws ts f s → ite_shape s ≡ false
         go Found.Uncovered h s g = ap ite_shape g
         go (Found.AsNone sort) h s g = ap ite_shape g.1
         go (Found.AsSome sort value) h s g = ap ite_shape g.2
@@ -110,9 +109,9 @@ module _ (ms ws ts : List ℕ) (i : ℕ) (p : Parts) (parts : PartsAt ws i p) wh
         go Found.Other h s g = ap ite_shape g
         go (Found.Unary op value) h s g = ap ite_shape g.1
         go (Found.Binary op left right) h s g = ap ite_shape g.2
-        go (Found.Ite condition left right) h s g = absurd (miss (0 ∷ 1 ∷ 2 ∷ 3 ∷ 4 ∷ 5 ∷ 6 ∷ 7 ∷ 8 ∷ 9 ∷ 10 ∷ 11 ∷ 12 ∷ []) 13 tt h)
+        go (Found.Ite condition left right) h s g = absurd (h condition left right refl)
 
-    pub step_other : OneOf (0 ∷ 1 ∷ 2 ∷ 3 ∷ 4 ∷ 5 ∷ 6 ∷ 7 ∷ 8 ∷ 9 ∷ 10 ∷ 11 ∷ 12 ∷ []) (tag_of FoundType.the_type f) → StepAt ms ws ts i Step.Stay
+    pub step_other : ((condition left right : ℕ) → f ≡ Found.Ite condition left right → ⊥) → StepAt ms ws ts i Step.Stay
     step_other h (bit_vec w n) s = refl
     step_other h (numeral n) s = refl
     step_other h (string t) s = refl

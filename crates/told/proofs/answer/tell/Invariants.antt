@@ -1,0 +1,11 @@
+use Prim.Native.Nat.{◌-◌}
+use lib.ListN.{length}
+use Rattle.lent.proofs.Copies.{Copying, copying-start, copying-within, copying-step, copying-end}
+use borrow.Author.Rules.{rules}
+use Rattle.told.proofs.answer.tell.Given as goal
+
+abbrev pub invariant-loop-at : goal.invariant-loop-at
+invariant-loop-at l = Copying l.words l.initial.told l.told l.at
+
+abbrev pub decreases-loop-at : goal.decreases-loop-at
+decreases-loop-at l = length l.words - l.at
