@@ -262,6 +262,7 @@ module _ (T : Tables) (a : ℕ) (e : Option ℕ) (k : Lit) where
       go (symbol s) row v (r_false q) h = no-set _ vs refl h
       go (symbol s) row v (r-member i m q p) h = no-set _ vs refl h
       go (app us) row v r h = (us, refl)
+      go (numeral _) row v r h = elim r [ ]
 
 -- the fields of a record, each of a sort
 pub listed : (T : Tables) (a : ℕ) (fs : List ℕ) (us : Trees) (vs : Values) (gs : List ℕ) → same_count fs us ≡ true → fields_of (λ x u. read T a x u) fs us ≡ ok vs → FieldSorts vs Loose T gs → Listed T a us vs

@@ -73,6 +73,8 @@ module _ (sorts members names ws ts : List ℕ) (first many allow : ℕ) (entry 
         go w nil v_nil o r l_nil =
             w.onwards out to (subst (λ (x : Values). Lays (onward i (texts x)) (onward i (texts (normals x))) out out to to) (sym r) (lays_none out to))
         go w (cons u os) (v_cons v rs) o r d = let c = w.there.many-are in let z = ap count o in absurd (omega arith)
+        go w nil (v_cons v rs) o r d = elim d [ ]
+        go w (cons u os) v_nil o r d = elim d [ ]
 
     module _ (more : i < many) (b c : List ℕ) (one next : ℕ) (f : Offers out b to (comma i) one) (d : WritesInside sorts members names ws ts node allow b c one next) (after : ℕ) (a : after ≡ after_at ws node) where
       pub left-next : LeftAt c next after (i + 1)
@@ -95,3 +97,5 @@ module _ (sorts members names ws ts : List ℕ) (first many allow : ℕ) (entry 
                     (subst (λ (x : Values). Lays (onward i (texts x)) (onward i (texts (normals x))) out exit to t) (sym r)
                     (lays_then (lays_put f) (lays_then fst (subst (λ (n : ℕ). Lays (onward n (texts rs)) (onward n (texts (normals rs))) c exit next t) (sym e) p))));
               }
+          go w nil (v_cons v rs) o r x6 = elim x6 [ ]
+          go w (cons u os) v_nil o r x5 = elim x5 [ ]

@@ -1,0 +1,13 @@
+use mathlib.Core.Path.{sym, ◌∙◌}
+use Rattle.value_text.proofs.Leaves.{name-truth, name-member, name-unknown}
+use borrow.Author.Rules.{rules}
+use Rattle.value_text.proofs.leaf.write_name.Goals as goal
+
+pub returns-then-is_truth : goal.returns-then-is_truth
+returns-then-is_truth c = name-truth _ _ _ _ _ _ (sym c.is_truth.ensures ∙ c.if-is_truth.true) c.put.ensures
+
+pub returns-in-Row : goal.returns-in-Row
+returns-in-Row c = name-member _ _ _ _ _ _ (sym c.is_truth.ensures ∙ c.if-is_truth.false) _ c.find_member-found.ensures _ c.in-Row.is c.write_member.ensures
+
+pub returns-in-NoRow : goal.returns-in-NoRow
+returns-in-NoRow c = name-unknown _ _ _ _ _ _ (sym c.is_truth.ensures ∙ c.if-is_truth.false) _ c.find_member-found.ensures c.in-NoRow.is
