@@ -1,0 +1,9 @@
+use Rattle.tables.specs.Lookup.{FindsVariable}
+use Prim.Native.Nat.{ℕ}
+use mathlib.Core.List.{List}
+use mathlib.Core.Path.{refl, subst}
+use borrow.Author.Rules.{rules}
+use Rattle.walk.proofs.command.variable_row.Goals as goal
+
+pub returns : goal.returns
+returns c = let a = c.args in subst (λ (s : List ℕ). FindsVariable a.variables.now a.names.now s c.find_variable.result) (c.clamp-range.ensures.holds a.text.now refl) c.find_variable.ensures

@@ -1,0 +1,14 @@
+use mathlib.Core.Path.{◌≡◌, refl, ap, ◌∙◌}
+use lib.ListN.{length}
+use mathlib.Core.Logic.{⊎_elim}
+use native.Mathlib.Omega.{arith}
+use Prim.Native.Nat.{◌-◌, ◌≤◌}
+use Rattle.walk.proofs.Walks.{LeftAt, walk_start, walk_end, walk_refused, walk-skipped, walk_defines}
+use borrow.Author.Rules.{rules}
+use Rattle.walk.proofs.walk.walk_parts.Given as goal
+
+abbrev pub invariant-loop-i : goal.invariant-loop-i
+invariant-loop-i l = (l.i ≤ l.count) × (length l.last ≡ length l.initial.last) × LeftAt l.form (record { sorts = l.sorts; fields = l.fields; variables = l.variables; functions = l.functions; members = l.members; names = l.names }) l.nodes l.text l.first l.count l.initial.last l.at l.i l.last
+
+abbrev pub decreases-loop-i : goal.decreases-loop-i
+decreases-loop-i l = l.count - l.i
