@@ -1,0 +1,6 @@
+use Rattle.lent.proofs.Offers.{offers_then}
+use borrow.Author.Rules.{rules}
+use Rattle.listing.proofs.header.write_header.Goals as goal
+
+pub returns : goal.returns
+returns c = offers_then c.write_number_line-one.ensures c.write_number_line.ensures

@@ -1,0 +1,6 @@
+use Rattle.lent.proofs.Offers.{offers_then}
+use borrow.Author.Rules.{rules}
+use Rattle.listing.proofs.line.write_line.Goals as goal
+
+pub returns : goal.returns
+returns c = offers_then c.put-one.ensures (offers_then c.put-two.ensures c.put.ensures)

@@ -1,0 +1,12 @@
+use mathlib.Core.Path.{ap₂}
+use Prim.Native.Nat.{ℕ, ◌+◌, ◌-◌}
+use native.Mathlib.Omega.{arith}
+use Rattle.listing.proofs.Tallies.{Sofar, tally_start, tally_step, tally_end}
+use borrow.Author.Rules.{rules}
+use Rattle.listing.proofs.tally.tally_entries.Given as goal
+
+abbrev pub invariant-loop-slot : goal.invariant-loop-slot
+invariant-loop-slot l = Sofar l.variables l.functions l.names l.last l.rows l.slot l.tally
+
+abbrev pub decreases-loop-slot : goal.decreases-loop-slot
+decreases-loop-slot l = l.rows - l.slot
