@@ -7,6 +7,7 @@ mod marks;
 mod output;
 mod puts;
 mod rooms;
+mod streams;
 
 pub use fields::{field_end, next_field, number, unhex};
 pub use lines::{Line, before_lines, next_line};
@@ -14,3 +15,4 @@ pub use marks::{is_marked, mark_bytes};
 pub use output::{finish, flush, room, write_hex};
 pub use puts::{put, put_detailed, put_hex, put_named, put_number, put_refusal, put_word};
 pub use rooms::stack_words;
+pub use streams::{INPUT, OUTPUT};

@@ -2,7 +2,7 @@
 ghost use Rattle.std.specs.Prelude.{◌≡◌, ◌≤◌, length};
 
 use crate::fields::field_end;
-use libc::STDIN_FILENO;
+use crate::streams::INPUT;
 
 // A line from its start up to its line feed, where the next one starts, and where what was read ends.
 #[derive(Clone, Copy)]
@@ -76,6 +76,6 @@ pub fn next_line(input: &mut [u8], last: Line) -> Line
         return here;
     }
     let kept = keep(input, last.next, last.end);
-    let got = io::read_full(STDIN_FILENO, &mut input[kept..]);
+    let got = io::read_full(INPUT, &mut input[kept..]);
     line_at(input, 0, kept + got)
 }

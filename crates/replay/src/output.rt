@@ -2,13 +2,13 @@
 ghost use Rattle.std.specs.Prelude.{◌≡◌, min, ◌≤◌, length};
 
 use crate::puts::{put, put_hex};
-use libc::STDOUT_FILENO;
+use crate::streams::OUTPUT;
 
 // The front of a buffer up to an end.
 pub fn flush(line: &[u8], end: usize) {
     if end <= line.len() {
         let zero = 0;
-        io::write_all(STDOUT_FILENO, &line[zero..end]);
+        io::write_all(OUTPUT, &line[zero..end]);
     }
 }
 
@@ -45,7 +45,7 @@ pub fn write_hex(bytes: &[u8], line: &mut [u8]) {
         let end = at + least(bytes.len() - at, 8192);
         let to = put_hex(&bytes[at..end], line, 0);
         let zero = 0;
-        io::write_all(STDOUT_FILENO, &line[zero..to]);
+        io::write_all(OUTPUT, &line[zero..to]);
         at = end;
     }
 }

@@ -1,7 +1,7 @@
 // An answer, as a line on standard output.
 use lent::Written;
-use libc::STDOUT_FILENO;
 use refusals::Refusal;
+use replay::OUTPUT;
 use utf8::Encoded;
 use words::{Order, Pair, Parsed};
 
@@ -86,9 +86,9 @@ pub fn string(answer: Written, text: &[u8], line: &mut [u8]) {
         Written::Length(count) => {
             if count <= text.len() {
                 let zero = 0;
-                io::write_all(STDOUT_FILENO, b"text=");
+                io::write_all(OUTPUT, b"text=");
                 replay::write_hex(&text[zero..count], line);
-                io::write_all(STDOUT_FILENO, b"\n");
+                io::write_all(OUTPUT, b"\n");
             }
         }
         Written::Refused(why) => refusal(why, line),

@@ -6,7 +6,7 @@ mod shows;
 ghost use Rattle.std.specs.Prelude.{◌≡◌, length};
 ghost use Rattle.reader.specs.Program.{program_words};
 
-use libc::STDIN_FILENO;
+use replay::INPUT;
 use reader::{PROGRAM_WORDS, Reading};
 use refusals::Refusal;
 
@@ -27,7 +27,7 @@ fn node_words() -> [u64; PROGRAM_WORDS]
 }
 
 fn list(input: &mut [u8], nodes: &mut [u64], text: &mut [u8], stack: &mut [u64], line: &mut [u8]) {
-    let got = io::read_full(STDIN_FILENO, input);
+    let got = io::read_full(INPUT, input);
     if more_follows() {
         return shows::refusal(Refusal::InputTooLong, line);
     }
@@ -46,5 +46,5 @@ fn list(input: &mut [u8], nodes: &mut [u64], text: &mut [u8], stack: &mut [u64],
 // Whether standard input has a byte more than was read: one past the room is enough to know.
 fn more_follows() -> bool {
     let mut byte = [0u8; 1];
-    0 < io::read_full(STDIN_FILENO, &mut byte)
+    0 < io::read_full(INPUT, &mut byte)
 }

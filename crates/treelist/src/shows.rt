@@ -3,7 +3,7 @@ ghost use Rattle.std.specs.Prelude.{◌≤◌, length};
 ghost use Rattle.replay.specs.Places.{Onward};
 
 use arena::STRIDE;
-use libc::STDOUT_FILENO;
+use replay::OUTPUT;
 use refusals::Refusal;
 
 // A word takes at most twenty digits and what parts it from the next.
@@ -38,7 +38,7 @@ pub fn tree(count: usize, size: usize, depth: usize, nodes: &[u64], text: &[u8],
     needs(count, size, depth, line);
     list_nodes(&nodes[zero..words], line);
     replay::write_hex(&text[zero..size], line);
-    io::write_all(STDOUT_FILENO, b"\n");
+    io::write_all(OUTPUT, b"\n");
 }
 
 fn needs(count: usize, size: usize, depth: usize, line: &mut [u8]) {

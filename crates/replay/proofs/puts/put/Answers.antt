@@ -1,0 +1,10 @@
+use mathlib.Core.Path.{◌≡◌}
+use Prim.Native.Nat.{◌-◌, ◌≤◌}
+use native.Mathlib.Omega.{arith}
+use lib.ListN.{length, length-set}
+use Rattle.replay.specs.Places.{Onward}
+use borrow.Author.Rules.{rules}
+use Rattle.replay.proofs.puts.put.Goals as goal
+
+pub loop-at-preserved : goal.loop-at-preserved
+loop-at-preserved c = (omega arith, simp length-set c.loop-at.invariant.1, omega arith)

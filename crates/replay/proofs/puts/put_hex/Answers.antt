@@ -1,0 +1,13 @@
+use mathlib.Core.Path.{◌≡◌}
+use Prim.Native.Nat.{◌-◌, ◌≤◌}
+use native.Mathlib.Omega.{arith}
+use lib.ListN.{length, length-set}
+use Rattle.replay.specs.Places.{Onward}
+use borrow.Author.Rules.{rules}
+use Rattle.replay.proofs.puts.put_hex.Goals as goal
+
+pub bounds-out-to-in-loop-at : goal.bounds-out-to-in-loop-at
+bounds-out-to-in-loop-at c = simp length-set (omega arith)
+
+pub loop-at-preserved : goal.loop-at-preserved
+loop-at-preserved c = (omega arith, simp length-set c.loop-at.invariant.1, omega arith)
