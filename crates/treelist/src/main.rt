@@ -6,9 +6,9 @@ mod shows;
 ghost use Rattle.std.specs.Prelude.{◌≡◌, length};
 ghost use Rattle.reader.specs.Program.{program_words};
 
-use replay::INPUT;
 use reader::{PROGRAM_WORDS, Reading};
 use refusals::Refusal;
+use replay::INPUT;
 
 fn main() {
     let mut input = io::large_buffer();

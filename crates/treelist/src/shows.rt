@@ -3,8 +3,8 @@ ghost use Rattle.std.specs.Prelude.{◌≤◌, length};
 ghost use Rattle.replay.specs.Places.{Onward};
 
 use arena::STRIDE;
-use replay::OUTPUT;
 use refusals::Refusal;
+use replay::OUTPUT;
 
 // A word takes at most twenty digits and what parts it from the next.
 const WORD_ROOM: usize = 21;
