@@ -1,0 +1,9 @@
+use Rattle.stazzumpi.proofs.Results.{exports_short, exports_written}
+use borrow.Author.Rules.{rules}
+use Rattle.stazzumpi.proofs.text.stazzumpi_decode_string.Goals as goal
+
+pub returns-then-told-lt1 : goal.returns-then-told-lt1
+returns-then-told-lt1 c = exports_short _ _ _ _ _ c.if-told-lt1.true c.code.ensures
+
+pub returns : goal.returns
+returns c = exports_written _ _ _ c.if-told-lt1.false c.decode_string-answer.ensures c.tell_written.ensures
