@@ -3,6 +3,6 @@
 
 use commands::Form;
 
-fn main() {
-    program::run(Form::Model);
+fn main(rt: HostRuntime) {
+    program::run(&rt, Form::Model);
 }

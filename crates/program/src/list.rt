@@ -1,8 +1,15 @@
 // The files, and the buffers that they are read into.
-ghost use Rattle.std.specs.Prelude.{◌≡◌, length};
+ghost use Rattle.std.specs.Prelude.{◌≡◌, ◌≤◌, length};
 
 use commands::Form;
-use libc::{STDIN_FILENO, STDOUT_FILENO};
+use std::fs;
+use std::io::Read;
+use std::rt::Files;
+
+// The numbers of the two streams.
+const INPUT: i32 = 0;
+
+const OUTPUT: i32 = 1;
 
 // One byte more than an input may have, so that a longer one shows.
 fn input_bytes() -> [u8; 65537]
@@ -11,19 +18,44 @@ fn input_bytes() -> [u8; 65537]
     [0; 65537]
 }
 
-// A file that cannot be opened reads as empty.
-fn list_files(form: Form, tables: &mut [u8], reply: &mut [u8], out: &mut [u8]) {
-    let file = os::open_read(b"tables.txt");
-    let rows = io::read_full(file, tables);
-    let bytes = io::read_full(STDIN_FILENO, reply);
-    let zero = 0;
-    let count = reply::print_reply(form, &tables[zero..rows], &reply[zero..bytes], out);
-    io::write_all(STDOUT_FILENO, &out[zero..count]);
+// What a file holds, up to a buffer's end; a read that fails ends it.
+fn read_front<F: Read>(file: &mut F, buffer: &mut [u8]) -> usize
+    ensures { result ≤ length buffer.old }
+{
+    let mut count = 0;
+    while count < buffer.len() {
+        let Ok(more) = file.read(&mut buffer[count..]) else {
+            return count;
+        };
+        if more == 0 {
+            return count;
+        }
+        count += more;
+    }
+    count
 }
 
-pub fn run(form: Form) {
+// A file that cannot be opened reads as empty.
+fn read_tables<R: Files>(rt: &R, tables: &mut [u8]) -> usize
+    ensures { result ≤ length tables.old }
+{
+    let Ok(mut file) = fs::open(rt, "tables.txt") else {
+        return 0;
+    };
+    read_front(&mut file, tables)
+}
+
+fn list_files<R: Files>(rt: &R, form: Form, tables: &mut [u8], reply: &mut [u8], out: &mut [u8]) {
+    let rows = read_tables(rt, tables);
+    let bytes = io::read_full(INPUT, reply);
+    let zero = 0;
+    let count = reply::print_reply(form, &tables[zero..rows], &reply[zero..bytes], out);
+    io::write_all(OUTPUT, &out[zero..count]);
+}
+
+pub fn run<R: Files>(rt: &R, form: Form) {
     let mut tables = input_bytes();
     let mut reply = input_bytes();
     let mut out = io::large_buffer();
-    list_files(form, &mut tables, &mut reply, &mut out);
+    list_files(rt, form, &mut tables, &mut reply, &mut out);
 }

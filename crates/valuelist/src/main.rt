@@ -3,6 +3,6 @@
 
 use commands::Form;
 
-fn main() {
-    program::run(Form::Values);
+fn main(rt: HostRuntime) {
+    program::run(&rt, Form::Values);
 }
