@@ -1,8 +1,7 @@
 use Rattle.std.proofs.Common.{ap, not}
 use mathlib.Core.Path.{refl}
 use Rattle.tables.specs.Layout.{count, name_at}
-use Rattle.tables.proofs.Marks.{Marked, marked_start, slot-within, here-within, free_alone, marked-fails, marked_next, marked-end}
-use borrow.Author.Rules.{rules}
+use Rattle.tables.proofs.Marks.{marked_start, slot-within, here-within, free_alone, marked-fails, marked_next, marked-end}
 use Rattle.tables.proofs.alone.are_alone.Goals as goal
 
 pub loop-left-init : goal.loop-left-init

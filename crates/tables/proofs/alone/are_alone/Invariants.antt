@@ -1,7 +1,5 @@
-use mathlib.Core.Path.{refl}
 use Rattle.tables.specs.Layout.{count, name_at}
-use Rattle.tables.proofs.Marks.{Marked, marked_start, slot-within, here-within, free_alone, marked-fails, marked_next, marked-end}
-use borrow.Author.Rules.{rules}
+use Rattle.tables.proofs.Marks.{Marked}
 use Rattle.tables.proofs.alone.are_alone.Given as goal
 
 abbrev pub invariant-loop-left : goal.invariant-loop-left

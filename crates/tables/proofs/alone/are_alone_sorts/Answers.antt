@@ -4,8 +4,7 @@ use mathlib.Core.List.{[]}
 use Rattle.tables.specs.Layout.{count, sort_at}
 use Rattle.tables.specs.Rules.{identity}
 use Rattle.tables.specs.Right.{lent_sorts}
-use Rattle.tables.proofs.Marks.{Marked, marked_start, slot-within, here-within, free_alone, marked-fails, marked_next, marked-end}
-use borrow.Author.Rules.{rules}
+use Rattle.tables.proofs.Marks.{marked_start, slot-within, here-within, free_alone, marked-fails, marked_next, marked-end}
 use Rattle.tables.proofs.alone.are_alone_sorts.Goals as goal
 
 pub loop-left-init : goal.loop-left-init

@@ -1,10 +1,8 @@
-use mathlib.Core.Path.{refl}
 use mathlib.Core.List.{[]}
 use Rattle.tables.specs.Layout.{count, sort_at}
 use Rattle.tables.specs.Rules.{identity}
 use Rattle.tables.specs.Right.{lent_sorts}
-use Rattle.tables.proofs.Marks.{Marked, marked_start, slot-within, here-within, free_alone, marked-fails, marked_next, marked-end}
-use borrow.Author.Rules.{rules}
+use Rattle.tables.proofs.Marks.{Marked}
 use Rattle.tables.proofs.alone.are_alone_sorts.Given as goal
 
 abbrev pub invariant-loop-left : goal.invariant-loop-left

@@ -1,7 +1,6 @@
 use mathlib.Core.Path.{sym}
 use Rattle.tables.proofs.Ranges.{clamps_name}
 use Rattle.tables.proofs.Alones.{alone-name}
-use borrow.Author.Rules.{rules}
 use Rattle.tables.proofs.alone.is_alone.Goals as goal
 
 pub returns-then-mark-eq0 : goal.returns-then-mark-eq0

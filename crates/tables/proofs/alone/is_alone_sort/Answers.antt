@@ -2,7 +2,6 @@ use mathlib.Core.Path.{sym}
 use mathlib.Core.List.{[]}
 use Rattle.tables.proofs.Ranges.{clamps_name}
 use Rattle.tables.proofs.Alones.{alone-named, alone-kind}
-use borrow.Author.Rules.{rules}
 use Rattle.tables.proofs.alone.is_alone_sort.Goals as goal
 
 pub returns-then-mark-eq0 : goal.returns-then-mark-eq0

@@ -1,8 +1,6 @@
 use Prim.Native.Nat.{◌-◌}
 use Rattle.tables.specs.Right.{right_function, alone}
-use Rattle.tables.proofs.Answers.{and_no}
-use Rattle.tables.proofs.Tabled.{Sofar, sofar-start, sofar-wrong, sofar-next, sofar-end}
-use borrow.Author.Rules.{rules}
+use Rattle.tables.proofs.Tabled.{Sofar}
 use Rattle.tables.proofs.check.check_functions.Given as goal
 
 abbrev pub invariant-loop-i : goal.invariant-loop-i

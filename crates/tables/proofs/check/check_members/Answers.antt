@@ -1,9 +1,7 @@
 use Rattle.std.proofs.Common.{ap, not}
-use Prim.Native.Nat.{◌-◌}
 use Rattle.tables.specs.Right.{right_member, alone}
 use Rattle.tables.proofs.Answers.{and_no}
-use Rattle.tables.proofs.Tabled.{Sofar, sofar-start, sofar-wrong, sofar-next, sofar-end}
-use borrow.Author.Rules.{rules}
+use Rattle.tables.proofs.Tabled.{sofar-start, sofar-wrong, sofar-next, sofar-end}
 use Rattle.tables.proofs.check.check_members.Goals as goal
 
 pub returns-then-not-is_table : goal.returns-then-not-is_table

@@ -2,9 +2,7 @@ use Rattle.std.proofs.Common.{ap, not}
 use Rattle.tables.specs.Layout.{Lent}
 use Rattle.tables.proofs.Answers.{and_no, and_yes}
 use Rattle.tables.proofs.Passes.{is-refused, is-passed, variables-counted, functions-counted}
-use borrow.Author.Tests.{not-true, not-false}
 use mathlib.Core.Path.{sym, ◌∙◌}
-use borrow.Author.Rules.{rules}
 use Rattle.tables.proofs.check.check_tables.Goals as goal
 
 pub returns-then-not-check_sorts : goal.returns-then-not-check_sorts

@@ -1,5 +1,4 @@
 use Rattle.tables.proofs.Rights.{table_odd, table-whole}
-use borrow.Author.Rules.{rules}
 use Rattle.tables.proofs.check.is_table.Goals as goal
 
 pub returns-then-rows-ne0 : goal.returns-then-rows-ne0

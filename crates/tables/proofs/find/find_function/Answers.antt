@@ -1,5 +1,4 @@
 use Rattle.tables.proofs.Finds.{finds_function}
-use borrow.Author.Rules.{rules}
 use Rattle.tables.proofs.find.find_function.Goals as goal
 
 pub returns : goal.returns

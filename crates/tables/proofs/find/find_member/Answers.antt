@@ -1,5 +1,4 @@
 use Rattle.tables.proofs.Finds.{finds_member}
-use borrow.Author.Rules.{rules}
 use Rattle.tables.proofs.find.find_member.Goals as goal
 
 pub returns : goal.returns

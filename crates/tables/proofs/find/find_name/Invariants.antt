@@ -1,12 +1,8 @@
-use mathlib.Core.Path.{◌≡◌, refl, sym, ◌∙◌}
-use native.Mathlib.Omega.{arith}
+use mathlib.Core.Path.{◌≡◌}
 use Prim.Native.Nat.{◌-◌}
 use Rattle.arena.specs.Text.{same_text}
 use Rattle.tables.specs.Layout.{name_at, count}
 use Rattle.tables.specs.Search.{first_row}
-use Rattle.tables.proofs.Searches.{first-here, first-later, first-none}
-use borrow.Author.Tests.{not-true}
-use borrow.Author.Rules.{rules}
 use Rattle.tables.proofs.find.find_name.Given as goal
 
 abbrev pub invariant-loop-i : goal.invariant-loop-i

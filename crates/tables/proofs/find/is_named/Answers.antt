@@ -4,7 +4,6 @@ use mathlib.Core.Path.{ap, ◌∙◌}
 use mathlib.Core.List.{List}
 use Prim.Native.Nat.{ℕ}
 use Rattle.arena.specs.Text.{same_text}
-use borrow.Author.Rules.{rules}
 use Rattle.tables.proofs.find.is_named.Goals as goal
 
 pub returns : goal.returns

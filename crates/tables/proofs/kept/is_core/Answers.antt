@@ -1,5 +1,4 @@
 use Rattle.tables.proofs.Keeps.{word-hit, word_skip, word-last}
-use borrow.Author.Rules.{rules}
 use Rattle.tables.proofs.kept.is_core.Goals as goal
 
 pub returns-then-same : goal.returns-then-same

@@ -1,6 +1,5 @@
 use Rattle.tables.proofs.Keeps.{kept_core, kept-literal, kept-sort}
 use mathlib.Core.Bool.{true}
-use borrow.Author.Rules.{rules}
 use Rattle.tables.proofs.kept.is_kept.Goals as goal
 
 pub returns-then-is_core : goal.returns-then-is_core

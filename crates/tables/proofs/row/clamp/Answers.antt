@@ -1,6 +1,5 @@
 use Rattle.tables.proofs.Ranges.{clamps_past, clamps_cut, clamps_whole}
 use native.Mathlib.Omega.{arith}
-use borrow.Author.Rules.{rules}
 use Rattle.tables.proofs.row.clamp.Goals as goal
 
 pub returns-then-most-first : goal.returns-then-most-first

@@ -1,5 +1,4 @@
 use Rattle.tables.proofs.Words.{word-past, word-short}
-use borrow.Author.Rules.{rules}
 use Rattle.tables.proofs.row.word.Goals as goal
 
 pub returns-then-words-row : goal.returns-then-words-row

@@ -1,11 +1,6 @@
-use mathlib.Core.Path.{◌≡◌, refl, sym, ◌∙◌}
-use Prim.Native.Nat.{◌-◌, ◌≤◌}
-use lib.Dec.{ltb}
-use lib.ListN.{length, drop}
-use Rattle.ground.specs.Lists.{all}
+use mathlib.Core.Path.{refl, sym, ◌∙◌}
 use native.Mathlib.Omega.{arith}
 use Rattle.tables.proofs.Rights.{below-no, below-yes, below_end}
-use borrow.Author.Rules.{rules}
 use Rattle.tables.proofs.rules.are_below.Goals as goal
 
 pub loop-i-init : goal.loop-i-init

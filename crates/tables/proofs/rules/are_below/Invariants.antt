@@ -1,11 +1,8 @@
-use mathlib.Core.Path.{◌≡◌, refl, sym, ◌∙◌}
+use mathlib.Core.Path.{◌≡◌}
 use Prim.Native.Nat.{◌-◌, ◌≤◌}
 use lib.Dec.{ltb}
 use lib.ListN.{length, drop}
 use Rattle.ground.specs.Lists.{all}
-use native.Mathlib.Omega.{arith}
-use Rattle.tables.proofs.Rights.{below-no, below-yes, below_end}
-use borrow.Author.Rules.{rules}
 use Rattle.tables.proofs.rules.are_below.Given as goal
 
 abbrev pub invariant-loop-i : goal.invariant-loop-i

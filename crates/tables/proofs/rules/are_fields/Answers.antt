@@ -6,7 +6,6 @@ use mathlib.Core.List.{List}
 use Prim.Native.Nat.{ℕ}
 use lib.Dec.{ltb}
 use Rattle.ground.specs.Lists.{all}
-use borrow.Author.Rules.{rules}
 use Rattle.tables.proofs.rules.are_fields.Goals as goal
 
 pub returns-then-not-is_inside : goal.returns-then-not-is_inside

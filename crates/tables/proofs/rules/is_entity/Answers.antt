@@ -1,5 +1,4 @@
 use Rattle.tables.proofs.Rights.{entity-past, entity_in}
-use borrow.Author.Rules.{rules}
 use Rattle.tables.proofs.rules.is_entity.Goals as goal
 
 pub returns-then-count-row : goal.returns-then-count-row

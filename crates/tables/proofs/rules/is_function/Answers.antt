@@ -4,7 +4,6 @@ use Rattle.tables.proofs.Rights.{there-no, there-yes}
 use mathlib.Core.Path.{ap}
 use Prim.Native.Nat.{ℕ}
 use lib.Dec.{ltb}
-use borrow.Author.Rules.{rules}
 use Rattle.tables.proofs.rules.is_function.Goals as goal
 
 pub returns-then-not-is_name : goal.returns-then-not-is_name

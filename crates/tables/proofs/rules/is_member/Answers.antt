@@ -4,7 +4,6 @@ use Rattle.tables.proofs.Rights.{text-words}
 use mathlib.Core.Path.{ap, ◌∙◌}
 use Prim.Native.Nat.{ℕ}
 use Rattle.tables.specs.Right.{entity_at}
-use borrow.Author.Rules.{rules}
 use Rattle.tables.proofs.rules.is_member.Goals as goal
 
 pub returns-then-not-is_own : goal.returns-then-not-is_own

@@ -6,7 +6,6 @@ use Prim.Native.Nat.{ℕ}
 use Rattle.tables.specs.Rules.{name_right}
 use Rattle.tables.proofs.Ranges.{clamps_name}
 use Rattle.tables.proofs.Rights.{inside-name}
-use borrow.Author.Rules.{rules}
 use Rattle.tables.proofs.rules.is_name.Goals as goal
 
 pub returns-then-not-is_inside : goal.returns-then-not-is_inside

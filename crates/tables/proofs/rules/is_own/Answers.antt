@@ -3,7 +3,6 @@ use Rattle.tables.proofs.Rights.{own-no, own-yes}
 use mathlib.Core.Path.{ap, ◌∙◌}
 use Rattle.tables.specs.Kept.{kept}
 use Rattle.tables.proofs.Ranges.{clamps_name}
-use borrow.Author.Rules.{rules}
 use Rattle.tables.proofs.rules.is_own.Goals as goal
 
 pub returns-then-not-is_name : goal.returns-then-not-is_name

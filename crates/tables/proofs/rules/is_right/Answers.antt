@@ -1,5 +1,4 @@
 use Rattle.tables.proofs.Rights.{right-long, right-short}
-use borrow.Author.Rules.{rules}
 use Rattle.tables.proofs.rules.is_right.Goals as goal
 
 pub returns-then-name-gt-MOST_BYTES : goal.returns-then-name-gt-MOST_BYTES

@@ -1,6 +1,5 @@
 use Rattle.std.proofs.Common.{ap, not}
 use Rattle.tables.proofs.ByKind.{sort-zero, sort-plain, sort-width, sort-refers, sort-unknown, sort-unnamed, sort-entity, sort_record}
-use borrow.Author.Rules.{rules}
 use Rattle.tables.proofs.rules.is_sort.Goals as goal
 
 pub returns-then-kind-eq0 : goal.returns-then-kind-eq0

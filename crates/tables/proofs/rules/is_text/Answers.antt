@@ -3,7 +3,6 @@ use Rattle.tables.proofs.Answers.{and_no, and_yes}
 use Rattle.tables.proofs.Rights.{part-long, part-short}
 use mathlib.Core.Path.{refl, ap, ◌∙◌}
 use Rattle.utf8.specs.Octets.{utf8}
-use borrow.Author.Rules.{rules}
 use Rattle.tables.proofs.rules.is_text.Goals as goal
 
 pub returns-then-not-is_inside : goal.returns-then-not-is_inside

@@ -3,7 +3,6 @@ use mathlib.Core.Path.{ap}
 use Prim.Native.Nat.{ℕ}
 use lib.Dec.{ltb}
 use Rattle.tables.proofs.Answers.{and_no, and_yes}
-use borrow.Author.Rules.{rules}
 use Rattle.tables.proofs.rules.is_variable.Goals as goal
 
 pub returns-then-not-is_name : goal.returns-then-not-is_name

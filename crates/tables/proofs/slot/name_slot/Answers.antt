@@ -3,7 +3,6 @@ use mathlib.Core.List.{List}
 use Prim.Native.Nat.{ℕ}
 use Rattle.tables.specs.Slot.{slot_from}
 use Rattle.tables.proofs.Ranges.{clamps_name}
-use borrow.Author.Rules.{rules}
 use Rattle.tables.proofs.slot.name_slot.Goals as goal
 
 pub returns : goal.returns

@@ -1,8 +1,4 @@
-use Prim.Native.Nat.{◌-◌}
-use native.Mathlib.Omega.{arith}
-use lib.ListN.{length}
-use Rattle.tables.proofs.Slots.{Folded, folded_start, folded_next, folded_end}
-use borrow.Author.Rules.{rules}
+use Rattle.tables.proofs.Slots.{folded_start, folded_next, folded_end}
 use Rattle.tables.proofs.slot.slot_from.Goals as goal
 
 pub loop-i-init : goal.loop-i-init

@@ -1,6 +1,5 @@
 use native.Mathlib.Omega.{arith}
 use Rattle.tables.proofs.Slots.{slot-named, slot-kind, slot-number}
-use borrow.Author.Rules.{rules}
 use Rattle.tables.proofs.slot.sort_slot.Goals as goal
 
 pub name_slot-requires : goal.name_slot-requires

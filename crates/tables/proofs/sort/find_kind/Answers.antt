@@ -1,11 +1,6 @@
-use mathlib.Core.Path.{◌≡◌, refl, sym, ◌∙◌}
+use mathlib.Core.Path.{refl, sym, ◌∙◌}
 use native.Mathlib.Omega.{arith}
-use Prim.Native.Nat.{◌-◌}
-use Rattle.tables.specs.Layout.{count}
-use Rattle.tables.specs.View.{is_kind}
-use Rattle.tables.specs.Search.{first_row}
 use Rattle.tables.proofs.Searches.{first-here, first-later, first-none}
-use borrow.Author.Rules.{rules}
 use Rattle.tables.proofs.sort.find_kind.Goals as goal
 
 pub loop-i-init : goal.loop-i-init

@@ -1,13 +1,7 @@
-use mathlib.Core.Path.{◌≡◌, refl, sym, ◌∙◌}
+use mathlib.Core.Path.{refl, sym, ◌∙◌}
 use native.Mathlib.Omega.{arith}
-use Prim.Native.Nat.{◌-◌}
-use Rattle.tables.specs.Layout.{count}
-use Rattle.tables.specs.View.{is_named}
-use Rattle.tables.specs.Search.{first_row}
 use Rattle.tables.proofs.Searches.{first-here, first-later, first-none}
 use Rattle.tables.proofs.Glances.{other-sort}
-use borrow.Author.Tests.{not-true}
-use borrow.Author.Rules.{rules}
 use Rattle.tables.proofs.sort.find_named.Goals as goal
 
 pub loop-i-init : goal.loop-i-init

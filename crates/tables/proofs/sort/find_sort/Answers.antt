@@ -5,7 +5,6 @@ use Rattle.tables.specs.Layout.{count}
 use Rattle.tables.specs.View.{is_kind}
 use Rattle.tables.specs.Search.{first_row}
 use Rattle.tables.proofs.Sorts.{finds_sort}
-use borrow.Author.Rules.{rules}
 use Rattle.tables.proofs.sort.find_sort.Goals as goal
 
 pub returns : goal.returns

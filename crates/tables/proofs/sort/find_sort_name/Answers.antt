@@ -1,5 +1,4 @@
 use Rattle.tables.proofs.Sorts.{finds_named}
-use borrow.Author.Rules.{rules}
 use Rattle.tables.proofs.sort.find_sort_name.Goals as goal
 
 pub returns : goal.returns

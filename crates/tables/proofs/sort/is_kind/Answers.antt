@@ -1,5 +1,4 @@
 use Rattle.tables.proofs.Sorts.{kind-no, kind-yes, kind-number}
-use borrow.Author.Rules.{rules}
 use Rattle.tables.proofs.sort.is_kind.Goals as goal
 
 pub returns-then-word-kind : goal.returns-then-word-kind

@@ -1,6 +1,4 @@
-use borrow.Author.Tests.{not-true, not-false}
 use Rattle.tables.proofs.Sorts.{named-no, named-yes}
-use borrow.Author.Rules.{rules}
 use Rattle.tables.proofs.sort.is_named_sort.Goals as goal
 
 pub returns-then-not-has_name : goal.returns-then-not-has_name

@@ -1,6 +1,5 @@
 use mathlib.Core.Path.{sym, ap}
 use Rattle.tables.specs.View.{key_of}
-use borrow.Author.Rules.{rules}
 use Rattle.tables.proofs.sort.key_of.Goals as goal
 
 pub returns-in-Bool : goal.returns-in-Bool

@@ -1,5 +1,4 @@
 use Rattle.tables.proofs.Sorts.{row-past, row_in}
-use borrow.Author.Rules.{rules}
 use Rattle.tables.proofs.sort.sort_at.Goals as goal
 
 pub returns-then-count-row : goal.returns-then-count-row

@@ -1,4 +1,4 @@
-use Rattle.std.proofs.Common.{arith, rules}
+use Rattle.std.proofs.Common.{arith}
 use Rattle.words.proofs.Worths.{a-decimal, no-decimal, a_capital, below-letters, a_letter, above-letters}
 use Rattle.words.proofs.digits.digit_worth.Goals as goal
 

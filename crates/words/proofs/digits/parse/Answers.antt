@@ -1,5 +1,5 @@
-use Rattle.std.proofs.Common.{◌-◌, length, arith, rules}
-use Rattle.words.proofs.Runs.{Sofar, parsed-empty, sofar-start, sofar-none, sofar-over, sofar-next, sofar-end}
+use Rattle.std.proofs.Common.{length, arith}
+use Rattle.words.proofs.Runs.{parsed-empty, sofar-start, sofar-none, sofar-over, sofar-next, sofar-end}
 use Rattle.words.proofs.WordRuns.{fewer}
 use Rattle.words.proofs.digits.parse.Goals as goal
 

@@ -1,6 +1,5 @@
-use Rattle.std.proofs.Common.{◌-◌, length, arith, rules}
-use Rattle.words.proofs.Runs.{Sofar, parsed-empty, sofar-start, sofar-none, sofar-over, sofar-next, sofar-end}
-use Rattle.words.proofs.WordRuns.{fewer}
+use Rattle.std.proofs.Common.{◌-◌, length}
+use Rattle.words.proofs.Runs.{Sofar}
 use Rattle.words.proofs.digits.parse.Given as goal
 
 abbrev pub invariant-loop-i : goal.invariant-loop-i

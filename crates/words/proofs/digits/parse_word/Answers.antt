@@ -1,7 +1,5 @@
-use Rattle.std.proofs.Common.{◌≡◌, ℕ, ◌-◌, ◌^◌, ◌≤◌, length, sym, ◌∙◌, subst, arith, rules}
-use Rattle.words.specs.declared.digits.Radix.{Radix}
-use Rattle.words.specs.Radix.{base_of}
-use Rattle.words.proofs.WordRuns.{Short, short-start, short_none, next_fits, short-next, short-end}
+use Rattle.std.proofs.Common.{ℕ, ◌^◌, ◌≤◌, length, sym, ◌∙◌, subst, arith}
+use Rattle.words.proofs.WordRuns.{short-start, short_none, next_fits, short-next, short-end}
 use Rattle.words.proofs.digits.parse_word.Goals as goal
 
 pub loop-i-init : goal.loop-i-init

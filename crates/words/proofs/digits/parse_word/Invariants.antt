@@ -1,7 +1,7 @@
-use Rattle.std.proofs.Common.{◌≡◌, ℕ, ◌-◌, ◌^◌, ◌≤◌, length, sym, ◌∙◌, subst, arith, rules}
+use Rattle.std.proofs.Common.{◌≡◌, ◌-◌, length}
 use Rattle.words.specs.declared.digits.Radix.{Radix}
 use Rattle.words.specs.Radix.{base_of}
-use Rattle.words.proofs.WordRuns.{Short, short-start, short_none, next_fits, short-next, short-end}
+use Rattle.words.proofs.WordRuns.{Short}
 use Rattle.words.proofs.digits.parse_word.Given as goal
 
 abbrev pub invariant-loop-i : goal.invariant-loop-i

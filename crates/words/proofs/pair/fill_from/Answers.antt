@@ -1,5 +1,4 @@
 use Rattle.words.proofs.Extends.{word-clear, unit-some, unit-fits, unit-set}
-use Rattle.std.proofs.Common.{rules}
 use Rattle.words.proofs.pair.fill_from.Goals as goal
 
 pub overflow_sub-below : goal.overflow_sub-below

@@ -1,4 +1,4 @@
-use Rattle.std.proofs.Common.{◌^◌, ◌≤◌, sym, subst, lit≤, rules}
+use Rattle.std.proofs.Common.{◌^◌, ◌≤◌, sym, subst, lit≤}
 use Rattle.words.specs.declared.digits.Radix.{Radix}
 use Rattle.words.specs.Radix.{base_of}
 use Rattle.words.proofs.digits.Radix.word_digits.Goals as goal
