@@ -7,12 +7,12 @@ import glob
 import re
 import sys
 
-KIT = ["check", "libc", "io", "os", "bytes"]
+KIT = ["io", "bytes"]
 # Crates that reach into a value of a type which they do not name: `replay::number(..).low` is a field of words::Pair, the `why` of a
 # `Written::Refused(why)` a refusal.
 BY_TYPE = {"replay_lines": ["words"], "replay_trees": ["words"], "replay_listings": ["refusals"]}
 START, END = "<!-- drawn by tools/deps.py -->", "<!-- end of the picture -->"
-LINE = re.compile(r"^([a-z0-9_]+):([^#\n]*)(#.*)?$")
+LINE = re.compile(r"^([a-z0-9_]+)(?: staticlib)?:([^#\n]*)(#.*)?$")
 
 
 def named(crate, known):
@@ -21,7 +21,7 @@ def named(crate, known):
         if path.endswith((".rt", ".antt")):
             with open(path, encoding="utf8") as f:
                 text = f.read()
-            found |= set(re.findall(r"Rattle·([a-z0-9_]+)[.·]", text))
+            found |= set(re.findall(r"Rattle\.([a-z0-9_]+)\.", text))
             if path.endswith(".rt"):
                 code = re.sub(r"//.*", "", text)
                 found |= set(re.findall(r"(?<![\w:])([a-z0-9_]+)::", code))
@@ -56,7 +56,7 @@ def main():
             wrong += 1
             said, want = set(m.group(2).split()), set(direct[m.group(1)])
             print(m.group(1), "less:", " ".join(sorted(said - want)), "more:", " ".join(sorted(want - said)))
-            line = (m.group(1) + ": " + " ".join(direct[m.group(1)])).ljust(30).rstrip() + "  " + (m.group(3) or "")
+            line = (line.split(":")[0] + ": " + " ".join(direct[m.group(1)])).ljust(30).rstrip() + "  " + (m.group(3) or "")
         out.append(line)
     drawn = picture(crates, direct, reach)
     with open("README.md", encoding="utf8") as f:
