@@ -1,8 +1,6 @@
 use mathlib.Core.Path.{sym, ◌∙◌}
 use native.Mathlib.Omega.{arith}
-use borrow.Author.Tests.{not-true, not-false}
 use Rattle.utf8.proofs.Encodings.{scalar-top, encoded-one, encoded-two, encoded-three, encoded-four, encoded-none}
-use borrow.Author.Rules.{rules}
 use Rattle.utf8.proofs.encode.Goals as goal
 
 pub returns-then-point-lt128 : goal.returns-then-point-lt128

@@ -1,10 +1,8 @@
 use mathlib.Core.Path.{sym, ap, ◌∙◌}
-use borrow.Author.Tests.{not-true, not-false}
 use lib.ListN.{length}
 use Rattle.utf8.specs.declared.Encoded.{Encoded}
 use Rattle.utf8.specs.Encoding.{bytes_of}
 use Rattle.utf8.proofs.Encodings.{encoded-one, encoded-two, encoded-three, encoded-four, encoded-none}
-use borrow.Author.Rules.{rules}
 use Rattle.utf8.proofs.encoded_length.Goals as goal
 
 pub returns-then-point-lt128 : goal.returns-then-point-lt128

@@ -1,8 +1,6 @@
 use Prim.Native.Nat.{◌-◌}
-use native.Mathlib.Omega.{arith}
 use lib.ListN.{length}
-use Rattle.utf8.proofs.Scans.{Passed, passed_start, passed-within, passed-step, passed-stuck, passed-end}
-use borrow.Author.Rules.{rules}
+use Rattle.utf8.proofs.Scans.{Passed}
 use Rattle.utf8.proofs.is_utf8.Given as goal
 
 abbrev pub invariant-loop-i : goal.invariant-loop-i

@@ -1,5 +1,4 @@
 use Rattle.utf8.proofs.Scans.{octet_past, octet_low, octet_last}
-use borrow.Author.Rules.{rules}
 use Rattle.utf8.proofs.octet_at.Goals as goal
 
 pub returns-then-s-j : goal.returns-then-s-j

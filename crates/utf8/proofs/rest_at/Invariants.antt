@@ -1,13 +1,9 @@
-use mathlib.Core.Path.{sym, ◌∙◌}
-use native.Mathlib.Omega.{arith}
-use borrow.Author.Tests.{not-true, not-false}
 use lib.ListN.{drop, replicate}
-use mathlib.Core.List.{[], ◌∷◌}
+use mathlib.Core.List.{◌∷◌}
 use Prim.Native.Nat.{◌+◌}
 use Rattle.utf8.specs.Rows.{◌to◌, tail}
 use Rattle.utf8.specs.Octets.{starts_with}
-use Rattle.utf8.proofs.Scans.{Tails, row-stops, there, tails_start, tails_step, tails_stop, tails_end}
-use borrow.Author.Rules.{rules}
+use Rattle.utf8.proofs.Scans.{Tails}
 use Rattle.utf8.proofs.rest_at.Given as goal
 
 abbrev pub invariant-loop-left : goal.invariant-loop-left

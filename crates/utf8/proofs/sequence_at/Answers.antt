@@ -1,7 +1,6 @@
 use mathlib.Core.Path.{refl}
 use native.Mathlib.Omega.{arith}
 use Rattle.utf8.proofs.Scans.{lead-row, lead-none}
-use borrow.Author.Rules.{rules}
 use Rattle.utf8.proofs.sequence_at.Goals as goal
 
 pub returns-then-lead-lt128 : goal.returns-then-lead-lt128

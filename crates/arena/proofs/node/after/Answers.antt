@@ -1,7 +1,6 @@
 use mathlib.Core.Path.{refl, sym, ◌∙◌}
 use native.Mathlib.Omega.{arith}
 use Rattle.arena.proofs.Views.{node-within, after-of}
-use borrow.Author.Rules.{rules}
 use Rattle.arena.proofs.node.after.Goals as goal
 
 pub overflow_add-result : goal.overflow_add-result

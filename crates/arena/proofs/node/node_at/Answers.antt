@@ -1,6 +1,5 @@
 use mathlib.Core.Path.{sym, ◌∙◌}
 use Rattle.arena.proofs.Views.{node_in, node-past}
-use borrow.Author.Rules.{rules}
 use Rattle.arena.proofs.node.node_at.Goals as goal
 
 pub returns-then-words-at : goal.returns-then-words-at

@@ -1,6 +1,5 @@
 use mathlib.Core.Path.{◌∙◌}
 use Rattle.arena.proofs.Views.{of-kind, no_kind}
-use borrow.Author.Rules.{rules}
 use Rattle.arena.proofs.node.node_of.Goals as goal
 
 pub returns-in-1 : goal.returns-in-1

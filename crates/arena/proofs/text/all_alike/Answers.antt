@@ -1,11 +1,6 @@
-use mathlib.Core.Path.{◌≡◌, refl, ◌∙◌}
-use mathlib.Core.Bool.{◌&&◌}
-use Prim.Native.Nat.{◌-◌, ◌≤◌}
-use lib.ListN.{length, drop}
+use mathlib.Core.Path.{refl, ◌∙◌}
 use native.Mathlib.Omega.{arith}
-use Rattle.arena.specs.Text.{same_text}
 use Rattle.arena.proofs.Texts.{same-onward, same-all}
-use borrow.Author.Rules.{rules}
 use Rattle.arena.proofs.text.all_alike.Goals as goal
 
 pub loop-i-init : goal.loop-i-init

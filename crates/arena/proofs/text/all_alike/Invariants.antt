@@ -1,11 +1,8 @@
-use mathlib.Core.Path.{◌≡◌, refl, ◌∙◌}
+use mathlib.Core.Path.{◌≡◌}
 use mathlib.Core.Bool.{◌&&◌}
 use Prim.Native.Nat.{◌-◌, ◌≤◌}
 use lib.ListN.{length, drop}
-use native.Mathlib.Omega.{arith}
 use Rattle.arena.specs.Text.{same_text}
-use Rattle.arena.proofs.Texts.{same-onward, same-all}
-use borrow.Author.Rules.{rules}
 use Rattle.arena.proofs.text.all_alike.Given as goal
 
 abbrev pub invariant-loop-i : goal.invariant-loop-i

@@ -1,7 +1,6 @@
 use mathlib.Core.Path.{sym}
 use native.Mathlib.Omega.{arith}
 use Rattle.arena.proofs.Texts.{same_lengths, same_none, same_stop}
-use borrow.Author.Rules.{rules}
 use Rattle.arena.proofs.text.same.Goals as goal
 
 pub returns-then-a-b : goal.returns-then-a-b

@@ -4,7 +4,6 @@ use native.Mathlib.Omega.{arith}
 use lib.ListN.{take, drop}
 use Rattle.arena.specs.Text.{same_text}
 use Rattle.arena.proofs.Texts.{is-past, is_within}
-use borrow.Author.Rules.{rules}
 use Rattle.arena.proofs.text.text_is.Goals as goal
 
 pub returns-then-most-offset : goal.returns-then-most-offset

@@ -1,6 +1,5 @@
 use native.Mathlib.Omega.{arith}
 use borrow.Author.Tests.{eq-eqb, ne_eqb}
-use borrow.Author.Rules.{rules}
 use Rattle.brackets.proofs.nodes.bump.Goals as goal
 
 pub returns-then-depth-eq0 : goal.returns-then-depth-eq0

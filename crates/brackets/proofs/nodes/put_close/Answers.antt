@@ -1,6 +1,3 @@
-use mathlib.Core.Path.{◌∙◌}
-use lib.ListN.{length-set}
-use borrow.Author.Rules.{rules}
 use Rattle.brackets.proofs.Ends.{end-counted}
 use Rattle.brackets.proofs.nodes.put_close.Goals as goal
 

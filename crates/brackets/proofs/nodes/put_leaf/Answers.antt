@@ -1,4 +1,3 @@
-use borrow.Author.Rules.{rules}
 use Rattle.brackets.proofs.nodes.put_leaf.Goals as goal
 
 pub bump-requires : goal.bump-requires

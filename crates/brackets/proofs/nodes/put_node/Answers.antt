@@ -1,7 +1,6 @@
 use native.Mathlib.Omega.{arith}
 use native.Mathlib.Numerals.{add-one, add-two, add-three}
 use lib.ListN.{length-set}
-use borrow.Author.Rules.{rules}
 use Rattle.brackets.proofs.nodes.put_node.Goals as goal
 
 pub bounds-nodes-first-2 : goal.bounds-nodes-first-2

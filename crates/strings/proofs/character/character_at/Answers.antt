@@ -1,6 +1,5 @@
 use native.Mathlib.Omega.{arith}
 use Rattle.strings.proofs.Characters.{character-plain, character_point, character-raw, character-last, character-two, character_lone}
-use borrow.Author.Rules.{rules}
 use Rattle.strings.proofs.character.character_at.Goals as goal
 
 pub returns-in_default : goal.returns-in_default

@@ -3,7 +3,6 @@ use lib.Dec.{lit≤}
 use mathlib.Core.Path.{◌∙◌, sym}
 use native.Mathlib.Omega.{arith}
 use Rattle.strings.proofs.Escapes.{braced_failed, braced-few, braced-empty, braced_large, braced_point}
-use borrow.Author.Rules.{rules}
 use Rattle.strings.proofs.escape.braced_escape.Goals as goal
 
 pub returns-in_default : goal.returns-in_default

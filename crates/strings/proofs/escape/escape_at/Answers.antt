@@ -1,6 +1,5 @@
 use mathlib.Core.Path.{◌∙◌}
 use Rattle.strings.proofs.Escapes.{escape_end, escape-other, escape-u-end, escape-brace, escape-four}
-use borrow.Author.Rules.{rules}
 use Rattle.strings.proofs.escape.escape_at.Goals as goal
 
 pub returns-then-s-start : goal.returns-then-s-start

@@ -1,5 +1,4 @@
 use Rattle.strings.proofs.Fours.{fours_short, fours_first, fours_second, fours_third, fours_fourth, fours_all}
-use borrow.Author.Rules.{rules}
 use Rattle.strings.proofs.escape.four_digits.Goals as goal
 
 pub returns-then-s-start-lt4 : goal.returns-then-s-start-lt4

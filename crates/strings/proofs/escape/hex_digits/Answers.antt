@@ -1,8 +1,5 @@
-use Prim.Native.Nat.{◌-◌}
 use native.Mathlib.Omega.{arith}
-use lib.ListN.{length}
-use Rattle.strings.proofs.Braces.{Passing, passing_start, passing_end, passing_brace, passing_full, passing_other, value-small, passing_step}
-use borrow.Author.Rules.{rules}
+use Rattle.strings.proofs.Braces.{passing_start, passing_end, passing_brace, passing_full, passing_other, value-small, passing_step}
 use Rattle.strings.proofs.escape.hex_digits.Goals as goal
 
 pub loop-at-init : goal.loop-at-init

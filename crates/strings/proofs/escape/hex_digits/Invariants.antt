@@ -1,8 +1,6 @@
 use Prim.Native.Nat.{◌-◌}
-use native.Mathlib.Omega.{arith}
 use lib.ListN.{length}
-use Rattle.strings.proofs.Braces.{Passing, passing_start, passing_end, passing_brace, passing_full, passing_other, value-small, passing_step}
-use borrow.Author.Rules.{rules}
+use Rattle.strings.proofs.Braces.{Passing}
 use Rattle.strings.proofs.escape.hex_digits.Given as goal
 
 abbrev pub invariant-loop-at : goal.invariant-loop-at

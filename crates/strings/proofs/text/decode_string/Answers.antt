@@ -1,6 +1,5 @@
 use mathlib.Core.Path.{◌∙◌, sym}
 use Rattle.strings.proofs.Answers.{decoded-long, decoded-surrogate, decoded-room, decoded-short, decoded-text}
-use borrow.Author.Rules.{rules}
 use Rattle.strings.proofs.text.decode_string.Goals as goal
 
 pub returns-then-s-gt-INPUT_LIMIT : goal.returns-then-s-gt-INPUT_LIMIT

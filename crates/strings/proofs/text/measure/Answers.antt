@@ -1,8 +1,5 @@
-use Prim.Native.Nat.{◌-◌}
 use native.Mathlib.Omega.{arith}
-use lib.ListN.{length}
-use Rattle.strings.proofs.Walks.{Measuring, measuring_start, measuring_surrogate, measuring_most, next-inside, measuring_step, measuring_end}
-use borrow.Author.Rules.{rules}
+use Rattle.strings.proofs.Walks.{measuring_start, measuring_surrogate, measuring_most, next-inside, measuring_step, measuring_end}
 use Rattle.strings.proofs.text.measure.Goals as goal
 
 pub loop-at-init : goal.loop-at-init

@@ -1,8 +1,6 @@
 use Prim.Native.Nat.{◌-◌}
-use native.Mathlib.Omega.{arith}
 use lib.ListN.{length}
-use Rattle.strings.proofs.Walks.{Measuring, measuring_start, measuring_surrogate, measuring_most, next-inside, measuring_step, measuring_end}
-use borrow.Author.Rules.{rules}
+use Rattle.strings.proofs.Walks.{Measuring}
 use Rattle.strings.proofs.text.measure.Given as goal
 
 abbrev pub invariant-loop-at : goal.invariant-loop-at

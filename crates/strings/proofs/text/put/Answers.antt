@@ -1,7 +1,6 @@
 use native.Mathlib.Omega.{arith}
 use lib.ListN.{length-set}
 use Rattle.strings.proofs.Stores.{room_as, puts_none, puts_one, puts-two, puts-three, puts-four}
-use borrow.Author.Rules.{rules}
 use Rattle.strings.proofs.text.put.Goals as goal
 
 pub bounds-out-at : goal.bounds-out-at

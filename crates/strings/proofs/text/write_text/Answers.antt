@@ -1,8 +1,5 @@
-use Prim.Native.Nat.{◌-◌}
 use native.Mathlib.Omega.{arith}
-use lib.ListN.{length}
-use Rattle.strings.proofs.Walks.{Writing, writing_start, writing-fits, next-inside, writing_step, writing-end}
-use borrow.Author.Rules.{rules}
+use Rattle.strings.proofs.Walks.{writing_start, writing-fits, next-inside, writing_step, writing-end}
 use Rattle.strings.proofs.text.write_text.Goals as goal
 
 pub loop-at-init : goal.loop-at-init

@@ -1,8 +1,6 @@
 use Prim.Native.Nat.{◌-◌}
-use native.Mathlib.Omega.{arith}
 use lib.ListN.{length}
-use Rattle.strings.proofs.Walks.{Writing, writing_start, writing-fits, next-inside, writing_step, writing-end}
-use borrow.Author.Rules.{rules}
+use Rattle.strings.proofs.Walks.{Writing}
 use Rattle.strings.proofs.text.write_text.Given as goal
 
 abbrev pub invariant-loop-at : goal.invariant-loop-at

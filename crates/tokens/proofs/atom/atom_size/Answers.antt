@@ -1,5 +1,4 @@
 use Rattle.tokens.proofs.Sizes.{size-bits, size_number, size-quoted, size-name, size-plain}
-use borrow.Author.Rules.{rules}
 use Rattle.tokens.proofs.atom.atom_size.Goals as goal
 
 pub returns-in-Blank : goal.returns-in-Blank

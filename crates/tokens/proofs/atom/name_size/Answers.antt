@@ -1,5 +1,4 @@
 use Rattle.tokens.proofs.Sizes.{named, unnamed}
-use borrow.Author.Rules.{rules}
 use Rattle.tokens.proofs.atom.name_size.Goals as goal
 
 pub returns-then-is_utf8 : goal.returns-then-is_utf8

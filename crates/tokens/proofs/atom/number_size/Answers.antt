@@ -1,6 +1,5 @@
 use mathlib.Core.Path.{◌∙◌, sym, ap}
 use Rattle.tokens.specs.Piece.{sized_number}
-use borrow.Author.Rules.{rules}
 use Rattle.tokens.proofs.atom.number_size.Goals as goal
 
 pub returns-in-Number : goal.returns-in-Number

@@ -1,5 +1,4 @@
 use Rattle.tokens.proofs.Sizes.{sized-text, sized-surrogate}
-use borrow.Author.Rules.{rules}
 use Rattle.tokens.proofs.atom.string_size.Goals as goal
 
 pub returns-in-Text : goal.returns-in-Text

@@ -1,12 +1,8 @@
-use mathlib.Core.Path.{◌≡◌, refl, sym, ◌∙◌}
-use Prim.Native.Nat.{◌+◌, ◌-◌}
+use mathlib.Core.Path.{refl, sym, ◌∙◌}
 use native.Mathlib.Omega.{arith}
-use lib.ListN.{length, drop}
 use Rattle.lexicon.specs.Class.{white_space}
 use Rattle.lexicon.proofs.Spans.{span_goes, span_stops, span_ends}
-use Rattle.tokens.specs.Lexeme.{blank_span}
 use Rattle.tokens.proofs.Pasts.{is_white, no-white}
-use borrow.Author.Rules.{rules}
 use Rattle.tokens.proofs.blanks.past_blanks.Goals as goal
 
 pub loop-at-init : goal.loop-at-init

@@ -1,5 +1,4 @@
 use Rattle.tokens.proofs.Lexemes.{hash-end, hash-binary, hash-hex, hash-other}
-use borrow.Author.Rules.{rules}
 use Rattle.tokens.proofs.lexeme.after_hash.Goals as goal
 
 pub returns-then-s-start : goal.returns-then-s-start

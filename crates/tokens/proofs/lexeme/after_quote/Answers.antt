@@ -1,6 +1,5 @@
 use native.Mathlib.Omega.{arith}
 use Rattle.tokens.proofs.Insides.{quote-inside, quote_open, quote-shut}
-use borrow.Author.Rules.{rules}
 use Rattle.tokens.proofs.lexeme.after_quote.Goals as goal
 
 pub overflow_add-result : goal.overflow_add-result

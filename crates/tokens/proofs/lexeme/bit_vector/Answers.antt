@@ -1,6 +1,5 @@
 use native.Mathlib.Omega.{arith}
 use Rattle.tokens.proofs.Digits.{run_inside, vector-is}
-use borrow.Author.Rules.{rules}
 use Rattle.tokens.proofs.lexeme.bit_vector.Goals as goal
 
 pub overflow_sub-result : goal.overflow_sub-result

@@ -1,6 +1,5 @@
 use native.Mathlib.Omega.{arith}
 use Rattle.tokens.proofs.Lexemes.{comment-is}
-use borrow.Author.Rules.{rules}
 use Rattle.tokens.proofs.lexeme.comment.Goals as goal
 
 pub overflow_sub-result : goal.overflow_sub-result

@@ -1,6 +1,5 @@
 use native.Mathlib.Omega.{arith}
 use Rattle.tokens.proofs.Lexemes.{at-blank, at-opening, at-closing, at-comment, at-quote, at-hash, at-digit, at_other}
-use borrow.Author.Rules.{rules}
 use Rattle.tokens.proofs.lexeme.lexeme_at.Goals as goal
 
 pub returns-then-class-eq-BLANK : goal.returns-then-class-eq-BLANK

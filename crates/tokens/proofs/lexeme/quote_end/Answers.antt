@@ -1,7 +1,4 @@
-use Prim.Native.Nat.{◌-◌}
-use lib.ListN.{length}
-use Rattle.tokens.proofs.Insides.{Inside, inside-start, inside-end, inside-passed, inside-last, inside-closed, inside-doubled}
-use borrow.Author.Rules.{rules}
+use Rattle.tokens.proofs.Insides.{inside-start, inside-end, inside-passed, inside-last, inside-closed, inside-doubled}
 use Rattle.tokens.proofs.lexeme.quote_end.Goals as goal
 
 pub loop-at-init : goal.loop-at-init

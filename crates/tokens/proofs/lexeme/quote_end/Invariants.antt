@@ -1,7 +1,6 @@
 use Prim.Native.Nat.{◌-◌}
 use lib.ListN.{length}
-use Rattle.tokens.proofs.Insides.{Inside, inside-start, inside-end, inside-passed, inside-last, inside-closed, inside-doubled}
-use borrow.Author.Rules.{rules}
+use Rattle.tokens.proofs.Insides.{Inside}
 use Rattle.tokens.proofs.lexeme.quote_end.Given as goal
 
 abbrev pub invariant-loop-at : goal.invariant-loop-at

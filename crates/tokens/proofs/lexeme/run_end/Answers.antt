@@ -1,7 +1,4 @@
-use Prim.Native.Nat.{◌-◌}
-use lib.ListN.{length}
-use Rattle.tokens.proofs.Digits.{Running, running_start, running_ends, running_stops, running_goes}
-use borrow.Author.Rules.{rules}
+use Rattle.tokens.proofs.Digits.{running_start, running_ends, running_stops, running_goes}
 use Rattle.tokens.proofs.lexeme.run_end.Goals as goal
 
 pub loop-at-init : goal.loop-at-init

@@ -1,7 +1,6 @@
 use Prim.Native.Nat.{◌-◌}
 use lib.ListN.{length}
-use Rattle.tokens.proofs.Digits.{Running, running_start, running_ends, running_stops, running_goes}
-use borrow.Author.Rules.{rules}
+use Rattle.tokens.proofs.Digits.{Running}
 use Rattle.tokens.proofs.lexeme.run_end.Given as goal
 
 abbrev pub invariant-loop-at : goal.invariant-loop-at

@@ -1,5 +1,4 @@
 use Rattle.brackets.proofs.Steps.{added_root, added-inside}
-use borrow.Author.Rules.{rules}
 use Rattle.brackets.proofs.scan.Scan.add_one.Goals as goal
 
 pub returns-then-self-eq0 : goal.returns-then-self-eq0

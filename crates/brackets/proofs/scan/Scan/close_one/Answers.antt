@@ -1,5 +1,4 @@
 use Rattle.brackets.proofs.Steps.{closed_none, closed-last, closed-more}
-use borrow.Author.Rules.{rules}
 use Rattle.brackets.proofs.scan.Scan.close_one.Goals as goal
 
 pub returns-then-self-eq0 : goal.returns-then-self-eq0

@@ -1,6 +1,5 @@
 use Rattle.brackets.specs.Count.{opened}
 use Rattle.brackets.proofs.Steps.{on-going, on-done, on_unclosed, on_trailing, opened-by}
-use borrow.Author.Rules.{rules}
 use Rattle.brackets.proofs.scan.Scan.opens.Goals as goal
 
 pub returns-in-Going : goal.returns-in-Going
