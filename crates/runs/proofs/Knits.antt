@@ -12,7 +12,7 @@ use Rattle.lent.specs.Left.{onto}
 use Rattle.lent.proofs.Pieces.{piece-long, piece-front, piece-behind}
 use Rattle.order.specs.Order.{before}
 use Rattle.order.specs.Merge.{inserts}
-use Rattle.order.specs.Every.{none, Ascends}
+use Rattle.order.specs.Every.{Ascends}
 use Rattle.order.proofs.Befores.{before_total}
 use Rattle.order.proofs.Everies.{every-head, every-tail, ascends_tail}
 use Rattle.order.proofs.Merges.{merge-first, merge-second, merge-later, merge-earlier, inserts-none}

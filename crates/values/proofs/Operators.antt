@@ -8,7 +8,6 @@ use native.Mathlib.Omega.{arith}
 use lib.Dec.{eqb, leb}
 use lib.IntN.{ℤ}
 use borrow.Author.Tests.{leb-true}
-use Rattle.ground.specs.Options.{over}
 use Rattle.ground.proofs.Options.{over-some}
 use Rattle.ground.proofs.Tests.{by_test}
 use Rattle.tables.proofs.Places.{some_one}

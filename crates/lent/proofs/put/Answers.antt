@@ -1,6 +1,5 @@
 use native.Mathlib.Omega.{arith}
 use Rattle.lent.proofs.Offers.{offers_past, offers_tail}
-use borrow.Author.Rules.{rules}
 use Rattle.lent.proofs.put.Goals as goal
 
 pub returns-then-out-at : goal.returns-then-out-at

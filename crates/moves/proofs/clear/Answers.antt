@@ -1,7 +1,4 @@
-use Prim.Native.Nat.{◌-◌}
-use lib.ListN.{length}
-use Rattle.moves.proofs.Draws.{Blank, blank-start, blank-next, blank-end}
-use borrow.Author.Rules.{rules}
+use Rattle.moves.proofs.Draws.{blank-start, blank-next, blank-end}
 use Rattle.moves.proofs.clear.Goals as goal
 
 pub loop-i-init : goal.loop-i-init

@@ -1,7 +1,6 @@
 use Prim.Native.Nat.{◌-◌}
 use lib.ListN.{length}
-use Rattle.moves.proofs.Draws.{Blank, blank-start, blank-next, blank-end}
-use borrow.Author.Rules.{rules}
+use Rattle.moves.proofs.Draws.{Blank}
 use Rattle.moves.proofs.clear.Given as goal
 
 abbrev pub invariant-loop-i : goal.invariant-loop-i

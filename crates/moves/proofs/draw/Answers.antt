@@ -1,6 +1,4 @@
-use Prim.Native.Nat.{◌-◌}
-use Rattle.moves.proofs.Draws.{Drawing, drawing_start, drawing_next, drawing_end, drawing_none}
-use borrow.Author.Rules.{rules}
+use Rattle.moves.proofs.Draws.{drawing_start, drawing_next, drawing_end, drawing_none}
 use Rattle.moves.proofs.draw.Goals as goal
 
 pub returns-then-w-j : goal.returns-then-w-j

@@ -1,6 +1,5 @@
 use Prim.Native.Nat.{◌-◌}
-use Rattle.moves.proofs.Draws.{Drawing, drawing_start, drawing_next, drawing_end, drawing_none}
-use borrow.Author.Rules.{rules}
+use Rattle.moves.proofs.Draws.{Drawing}
 use Rattle.moves.proofs.draw.Given as goal
 
 abbrev pub invariant-loop-i : goal.invariant-loop-i

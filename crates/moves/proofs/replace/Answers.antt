@@ -1,7 +1,4 @@
-use Prim.Native.Nat.{◌-◌}
-use lib.ListN.{length}
-use Rattle.moves.proofs.Replaces.{Replacing, replacing_start, replacing_step, replacing_end}
-use borrow.Author.Rules.{rules}
+use Rattle.moves.proofs.Replaces.{replacing_start, replacing_step, replacing_end}
 use Rattle.moves.proofs.replace.Goals as goal
 
 pub loop-i-init : goal.loop-i-init

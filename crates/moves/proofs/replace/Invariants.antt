@@ -1,7 +1,6 @@
 use Prim.Native.Nat.{◌-◌}
 use lib.ListN.{length}
-use Rattle.moves.proofs.Replaces.{Replacing, replacing_start, replacing_step, replacing_end}
-use borrow.Author.Rules.{rules}
+use Rattle.moves.proofs.Replaces.{Replacing}
 use Rattle.moves.proofs.replace.Given as goal
 
 abbrev pub invariant-loop-i : goal.invariant-loop-i

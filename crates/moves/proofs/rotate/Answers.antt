@@ -1,8 +1,5 @@
-use Prim.Native.Nat.{◌-◌}
 use native.Mathlib.Omega.{arith}
-use lib.ListN.{length}
-use Rattle.moves.proofs.Turns.{Turning, turning_start, turning_none, turning_all, turning_step, swap-fits, turn-room, turn-falls}
-use borrow.Author.Rules.{rules}
+use Rattle.moves.proofs.Turns.{turning_start, turning_none, turning_all, turning_step, swap-fits, turn-room, turn-falls}
 use Rattle.moves.proofs.rotate.Goals as goal
 
 pub loop-c-init : goal.loop-c-init

@@ -1,8 +1,6 @@
 use Prim.Native.Nat.{◌-◌}
-use native.Mathlib.Omega.{arith}
 use lib.ListN.{length}
-use Rattle.moves.proofs.Turns.{Turning, turning_start, turning_none, turning_all, turning_step, swap-fits, turn-room, turn-falls}
-use borrow.Author.Rules.{rules}
+use Rattle.moves.proofs.Turns.{Turning}
 use Rattle.moves.proofs.rotate.Given as goal
 
 abbrev pub invariant-loop-c : goal.invariant-loop-c

@@ -1,8 +1,6 @@
 use lib.ListN.{length-set}
-use Prim.Native.Nat.{◌-◌}
 use native.Mathlib.Omega.{arith}
-use Rattle.moves.proofs.Turns.{Swapping, swapping_start, swapping_step, swapping_end}
-use borrow.Author.Rules.{rules}
+use Rattle.moves.proofs.Turns.{swapping_start, swapping_step, swapping_end}
 use Rattle.moves.proofs.swap.Goals as goal
 
 pub loop-i-init : goal.loop-i-init

@@ -1,8 +1,5 @@
-use lib.ListN.{length-set}
 use Prim.Native.Nat.{◌-◌}
-use native.Mathlib.Omega.{arith}
-use Rattle.moves.proofs.Turns.{Swapping, swapping_start, swapping_step, swapping_end}
-use borrow.Author.Rules.{rules}
+use Rattle.moves.proofs.Turns.{Swapping}
 use Rattle.moves.proofs.swap.Given as goal
 
 abbrev pub invariant-loop-i : goal.invariant-loop-i

@@ -1,8 +1,5 @@
-use Prim.Native.Nat.{◌-◌}
 use native.Mathlib.Omega.{arith}
-use lib.ListN.{length}
-use Rattle.parts.proofs.Rises.{Checking, checking_start, checking_fall, checking_past, checking_step, checking_end}
-use borrow.Author.Rules.{rules}
+use Rattle.parts.proofs.Rises.{checking_start, checking_fall, checking_past, checking_step, checking_end}
 use Rattle.parts.proofs.ends.check_ends.Goals as goal
 
 pub loop-at-init : goal.loop-at-init

@@ -1,8 +1,6 @@
 use Prim.Native.Nat.{◌-◌}
-use native.Mathlib.Omega.{arith}
 use lib.ListN.{length}
-use Rattle.parts.proofs.Rises.{Checking, checking_start, checking_fall, checking_past, checking_step, checking_end}
-use borrow.Author.Rules.{rules}
+use Rattle.parts.proofs.Rises.{Checking}
 use Rattle.parts.proofs.ends.check_ends.Given as goal
 
 abbrev pub invariant-loop-at : goal.invariant-loop-at

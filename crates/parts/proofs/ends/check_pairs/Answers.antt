@@ -1,5 +1,4 @@
 use Rattle.parts.proofs.Rises.{odd_falls, even-risen}
-use borrow.Author.Rules.{rules}
 use Rattle.parts.proofs.ends.check_pairs.Goals as goal
 
 pub returns-then-ends-eq1 : goal.returns-then-ends-eq1

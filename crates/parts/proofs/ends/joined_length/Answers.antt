@@ -1,6 +1,5 @@
 use native.Mathlib.Omega.{arith}
 use Rattle.parts.proofs.Sizes.{gap_small, gap_none}
-use borrow.Author.Rules.{rules}
 use Rattle.parts.proofs.ends.joined_length.Goals as goal
 
 pub returns-then-count-eq0 : goal.returns-then-count-eq0

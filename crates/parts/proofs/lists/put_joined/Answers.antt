@@ -1,6 +1,5 @@
 use native.Mathlib.Omega.{arith}
 use Rattle.parts.proofs.Trails.{rise-next, joined-none, joined-all}
-use borrow.Author.Rules.{rules}
 use Rattle.parts.proofs.lists.put_joined.Goals as goal
 
 pub returns-then-ends-eq0 : goal.returns-then-ends-eq0

@@ -1,5 +1,4 @@
 use Rattle.lent.proofs.Offers.{offers_then}
-use borrow.Author.Rules.{rules}
 use Rattle.parts.proofs.lists.put_pair.Goals as goal
 
 pub returns : goal.returns

@@ -1,6 +1,5 @@
 use native.Mathlib.Omega.{arith}
 use Rattle.parts.proofs.Trails.{rise-next, rise-two, pairs-none, pairs-all}
-use borrow.Author.Rules.{rules}
 use Rattle.parts.proofs.lists.put_pairs.Goals as goal
 
 pub returns-then-ends-lt2 : goal.returns-then-ends-lt2

@@ -1,8 +1,5 @@
 use mathlib.Core.Path.{◌∙◌}
-use Prim.Native.Nat.{◌-◌}
-use lib.ListN.{length}
-use Rattle.parts.proofs.Trails.{Trailing, trailing_start, trailing_next, trailing_step, trailing_end}
-use borrow.Author.Rules.{rules}
+use Rattle.parts.proofs.Trails.{trailing_start, trailing_next, trailing_step, trailing_end}
 use Rattle.parts.proofs.lists.put_trailed.Goals as goal
 
 pub loop-i-init : goal.loop-i-init

@@ -1,8 +1,6 @@
-use mathlib.Core.Path.{◌∙◌}
 use Prim.Native.Nat.{◌-◌}
 use lib.ListN.{length}
-use Rattle.parts.proofs.Trails.{Trailing, trailing_start, trailing_next, trailing_step, trailing_end}
-use borrow.Author.Rules.{rules}
+use Rattle.parts.proofs.Trails.{Trailing}
 use Rattle.parts.proofs.lists.put_trailed.Given as goal
 
 abbrev pub invariant-loop-i : goal.invariant-loop-i

@@ -1,8 +1,5 @@
-use Prim.Native.Nat.{◌-◌}
 use native.Mathlib.Omega.{arith}
-use lib.ListN.{length}
-use Rattle.parts.proofs.Trails.{Pairing, pairing_start, pairing_one, pairing_two, pairing_step, pairing_end}
-use borrow.Author.Rules.{rules}
+use Rattle.parts.proofs.Trails.{pairing_start, pairing_one, pairing_two, pairing_step, pairing_end}
 use Rattle.parts.proofs.lists.put_trailed_pairs.Goals as goal
 
 pub loop-i-init : goal.loop-i-init

@@ -1,10 +1,4 @@
-use Prim.Native.Nat.{◌-◌}
-use mathlib.Core.List.{map}
-use lib.ListN.{length}
-use Rattle.lent.proofs.Copies.{Copying}
-use Rattle.parts.specs.Texts.{spaced}
 use Rattle.parts.proofs.Spaces.{spacing_start, spacing_within, spacing_step, spacing_end}
-use borrow.Author.Rules.{rules}
 use Rattle.parts.proofs.spaced.copy_spaced.Goals as goal
 
 pub loop-at-init : goal.loop-at-init

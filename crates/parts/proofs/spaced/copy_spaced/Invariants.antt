@@ -3,8 +3,6 @@ use mathlib.Core.List.{map}
 use lib.ListN.{length}
 use Rattle.lent.proofs.Copies.{Copying}
 use Rattle.parts.specs.Texts.{spaced}
-use Rattle.parts.proofs.Spaces.{spacing_start, spacing_within, spacing_step, spacing_end}
-use borrow.Author.Rules.{rules}
 use Rattle.parts.proofs.spaced.copy_spaced.Given as goal
 
 abbrev pub invariant-loop-at : goal.invariant-loop-at

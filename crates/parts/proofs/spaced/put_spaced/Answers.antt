@@ -3,7 +3,6 @@ use Rattle.lent.proofs.Offers.{offers_past, offers_tail}
 use mathlib.Core.List.{map}
 use Rattle.parts.specs.Texts.{spaced}
 use Rattle.parts.proofs.Spaces.{length-spaced}
-use borrow.Author.Rules.{rules}
 use Rattle.parts.proofs.spaced.put_spaced.Goals as goal
 
 pub returns-then-out-at : goal.returns-then-out-at

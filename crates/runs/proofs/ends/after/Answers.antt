@@ -1,7 +1,4 @@
-use Prim.Native.Nat.{◌-◌}
-use lib.ListN.{length}
-use Rattle.runs.proofs.Pieces.{Sofar, sofar-start, sofar-next, sofar-last, sofar-end}
-use borrow.Author.Rules.{rules}
+use Rattle.runs.proofs.Pieces.{sofar-start, sofar-next, sofar-last, sofar-end}
 use Rattle.runs.proofs.ends.after.Goals as goal
 
 pub loop-i-init : goal.loop-i-init

@@ -1,7 +1,6 @@
 use Prim.Native.Nat.{◌-◌}
 use lib.ListN.{length}
-use Rattle.runs.proofs.Pieces.{Sofar, sofar-start, sofar-next, sofar-last, sofar-end}
-use borrow.Author.Rules.{rules}
+use Rattle.runs.proofs.Pieces.{Sofar}
 use Rattle.runs.proofs.ends.after.Given as goal
 
 abbrev pub invariant-loop-i : goal.invariant-loop-i

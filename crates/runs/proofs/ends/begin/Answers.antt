@@ -1,5 +1,4 @@
-use Rattle.runs.proofs.Pieces.{Seeking, seeking_start, seeking_next, seeking_found, seeking_end}
-use borrow.Author.Rules.{rules}
+use Rattle.runs.proofs.Pieces.{seeking_start, seeking_next, seeking_found, seeking_end}
 use Rattle.runs.proofs.ends.begin.Goals as goal
 
 pub loop-p-init : goal.loop-p-init

@@ -1,5 +1,4 @@
-use Rattle.runs.proofs.Pieces.{Seeking, seeking_start, seeking_next, seeking_found, seeking_end}
-use borrow.Author.Rules.{rules}
+use Rattle.runs.proofs.Pieces.{Seeking}
 use Rattle.runs.proofs.ends.begin.Given as goal
 
 abbrev pub invariant-loop-p : goal.invariant-loop-p

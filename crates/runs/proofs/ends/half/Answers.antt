@@ -1,5 +1,4 @@
 use Rattle.runs.proofs.Pieces.{halved_middle, halved-first, halved_none}
-use borrow.Author.Rules.{rules}
 use Rattle.runs.proofs.ends.half.Goals as goal
 
 pub returns-then-p-ne0 : goal.returns-then-p-ne0

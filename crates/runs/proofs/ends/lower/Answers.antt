@@ -1,7 +1,5 @@
-use Prim.Native.Nat.{◌-◌}
-use Rattle.runs.proofs.Lowers.{Halving, halving_start, halving_up, halving_down, falls-up, falls_down, halving_end}
+use Rattle.runs.proofs.Lowers.{halving_start, halving_up, halving_down, falls-up, falls_down, halving_end}
 use mathlib.Core.Path.{refl}
-use borrow.Author.Rules.{rules}
 use Rattle.runs.proofs.ends.lower.Goals as goal
 
 pub loop-lo-init : goal.loop-lo-init

@@ -1,7 +1,4 @@
-use Prim.Native.Nat.{◌-◌}
-use Rattle.runs.specs.Pair.{pairs}
-use Rattle.runs.proofs.Finds.{Finding, finding_start, finding_up, finding_down, finding_end}
-use borrow.Author.Rules.{rules}
+use Rattle.runs.proofs.Finds.{finding_start, finding_up, finding_down, finding_end}
 use Rattle.runs.proofs.index.find.Goals as goal
 
 pub loop-lo-init : goal.loop-lo-init

@@ -1,7 +1,6 @@
 use Prim.Native.Nat.{◌-◌}
 use Rattle.runs.specs.Pair.{pairs}
-use Rattle.runs.proofs.Finds.{Finding, finding_start, finding_up, finding_down, finding_end}
-use borrow.Author.Rules.{rules}
+use Rattle.runs.proofs.Finds.{Finding}
 use Rattle.runs.proofs.index.find.Given as goal
 
 abbrev pub invariant-loop-lo : goal.invariant-loop-lo

@@ -1,11 +1,7 @@
-use mathlib.Core.Path.{◌≡◌, refl, ◌∙◌}
-use Prim.Native.Nat.{◌-◌, suc}
+use mathlib.Core.Path.{refl, ◌∙◌}
 use native.Mathlib.Omega.{arith}
-use lib.ListN.{length}
-use Rattle.runs.specs.Pair.{pairs}
 use Rattle.runs.proofs.Pairs.{pairs-long}
-use Rattle.runs.proofs.Finds.{Shifting, shifting_start, shifting_next, shifting_end}
-use borrow.Author.Rules.{rules}
+use Rattle.runs.proofs.Finds.{shifting_start, shifting_next, shifting_end}
 use Rattle.runs.proofs.index.insert.Goals as goal
 
 pub loop-i-init : goal.loop-i-init

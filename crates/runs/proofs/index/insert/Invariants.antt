@@ -1,11 +1,8 @@
-use mathlib.Core.Path.{◌≡◌, refl, ◌∙◌}
+use mathlib.Core.Path.{◌≡◌}
 use Prim.Native.Nat.{◌-◌, suc}
-use native.Mathlib.Omega.{arith}
 use lib.ListN.{length}
 use Rattle.runs.specs.Pair.{pairs}
-use Rattle.runs.proofs.Pairs.{pairs-long}
-use Rattle.runs.proofs.Finds.{Shifting, shifting_start, shifting_next, shifting_end}
-use borrow.Author.Rules.{rules}
+use Rattle.runs.proofs.Finds.{Shifting}
 use Rattle.runs.proofs.index.insert.Given as goal
 
 abbrev pub invariant-loop-i : goal.invariant-loop-i

@@ -1,7 +1,4 @@
-use Prim.Native.Nat.{◌-◌}
-use lib.ListN.{length}
-use Rattle.runs.proofs.Listings.{Listing, listing_start, listing-fits, listing-falls, listing-next, listing_full, listing-end}
-use borrow.Author.Rules.{rules}
+use Rattle.runs.proofs.Listings.{listing_start, listing-fits, listing-falls, listing-next, listing_full, listing-end}
 use Rattle.runs.proofs.index.list.Goals as goal
 
 pub loop-p-init : goal.loop-p-init

@@ -1,7 +1,6 @@
 use Prim.Native.Nat.{◌-◌}
 use lib.ListN.{length}
-use Rattle.runs.proofs.Listings.{Listing, listing_start, listing-fits, listing-falls, listing-next, listing_full, listing-end}
-use borrow.Author.Rules.{rules}
+use Rattle.runs.proofs.Listings.{Listing}
 use Rattle.runs.proofs.index.list.Given as goal
 
 abbrev pub invariant-loop-p : goal.invariant-loop-p

@@ -1,7 +1,6 @@
 use Rattle.runs.proofs.Pairs.{pairs-long}
 use native.Mathlib.Omega.{arith}
 use Rattle.runs.proofs.Finds.{settled_before, settled-last, settled-later, settled-earlier}
-use borrow.Author.Rules.{rules}
 use Rattle.runs.proofs.index.settle.Goals as goal
 
 pub insert-requires : goal.insert-requires

@@ -1,5 +1,4 @@
 use Rattle.runs.proofs.Listings.{tried-not, tried}
-use borrow.Author.Rules.{rules}
 use Rattle.runs.proofs.index.try_short.Goals as goal
 
 pub returns-then-s-gt-SHORT : goal.returns-then-s-gt-SHORT

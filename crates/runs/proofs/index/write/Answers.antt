@@ -1,6 +1,4 @@
-use Prim.Native.Nat.{◌-◌}
-use Rattle.runs.proofs.Listings.{Writing, writing_start, writing-room, writing-next, writing-full, writing-end}
-use borrow.Author.Rules.{rules}
+use Rattle.runs.proofs.Listings.{writing_start, writing-room, writing-next, writing-full, writing-end}
 use Rattle.runs.proofs.index.write.Goals as goal
 
 pub loop-i-init : goal.loop-i-init

@@ -1,6 +1,5 @@
 use Prim.Native.Nat.{◌-◌}
-use Rattle.runs.proofs.Listings.{Writing, writing_start, writing-room, writing-next, writing-full, writing-end}
-use borrow.Author.Rules.{rules}
+use Rattle.runs.proofs.Listings.{Writing}
 use Rattle.runs.proofs.index.write.Given as goal
 
 abbrev pub invariant-loop-i : goal.invariant-loop-i

@@ -1,8 +1,6 @@
 use Prim.Native.Nat.{◌-◌}
-use native.Mathlib.Omega.{arith}
 use lib.ListN.{length}
-use Rattle.runs.proofs.Words.{Level, level-skipped, skipped-fits, level-none, level-less, level-more, level-next, level-room, level-room_2}
-use borrow.Author.Rules.{rules}
+use Rattle.runs.proofs.Words.{Level}
 use Rattle.runs.proofs.keys.less.Given as goal
 
 abbrev pub invariant-loop-p : goal.invariant-loop-p

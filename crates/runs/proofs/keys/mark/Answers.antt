@@ -1,5 +1,4 @@
 use Rattle.runs.proofs.Words.{mark-past, mark-stopped, mark-other}
-use borrow.Author.Rules.{rules}
 use Rattle.runs.proofs.keys.mark.Goals as goal
 
 pub returns-then-s-i : goal.returns-then-s-i

@@ -1,7 +1,4 @@
-use Prim.Native.Nat.{◌-◌}
-use lib.ListN.{length}
-use Rattle.runs.proofs.Words.{Skipping, skipping_start, skipping_next, skipped}
-use borrow.Author.Rules.{rules}
+use Rattle.runs.proofs.Words.{skipping_start, skipping_next, skipped}
 use Rattle.runs.proofs.keys.past_same.Goals as goal
 
 pub loop-i-init : goal.loop-i-init

@@ -1,7 +1,6 @@
 use Prim.Native.Nat.{◌-◌}
 use lib.ListN.{length}
-use Rattle.runs.proofs.Words.{Skipping, skipping_start, skipping_next, skipped}
-use borrow.Author.Rules.{rules}
+use Rattle.runs.proofs.Words.{Skipping}
 use Rattle.runs.proofs.keys.past_same.Given as goal
 
 abbrev pub invariant-loop-i : goal.invariant-loop-i

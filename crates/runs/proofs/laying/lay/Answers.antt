@@ -1,7 +1,4 @@
-use Prim.Native.Nat.{◌-◌}
-use lib.ListN.{length}
-use Rattle.runs.proofs.Lays.{Laying, laying_start, laying_next, laying_last, laying_end}
-use borrow.Author.Rules.{rules}
+use Rattle.runs.proofs.Lays.{laying_start, laying_next, laying_last, laying_end}
 use Rattle.runs.proofs.laying.lay.Goals as goal
 
 pub loop-n-init : goal.loop-n-init

@@ -1,7 +1,6 @@
 use Prim.Native.Nat.{◌-◌}
 use lib.ListN.{length}
-use Rattle.runs.proofs.Lays.{Laying, laying_start, laying_next, laying_last, laying_end}
-use borrow.Author.Rules.{rules}
+use Rattle.runs.proofs.Lays.{Laying}
 use Rattle.runs.proofs.laying.lay.Given as goal
 
 abbrev pub invariant-loop-n : goal.invariant-loop-n

@@ -1,7 +1,4 @@
-use Prim.Native.Nat.{◌-◌}
-use lib.ListN.{length}
-use Rattle.runs.proofs.Lays.{Sliding, sliding_start, sliding_next, sliding_last, sliding_end}
-use borrow.Author.Rules.{rules}
+use Rattle.runs.proofs.Lays.{sliding_start, sliding_next, sliding_last, sliding_end}
 use Rattle.runs.proofs.laying.slide.Goals as goal
 
 pub loop-n-init : goal.loop-n-init

@@ -1,7 +1,6 @@
 use Prim.Native.Nat.{◌-◌}
 use lib.ListN.{length}
-use Rattle.runs.proofs.Lays.{Sliding, sliding_start, sliding_next, sliding_last, sliding_end}
-use borrow.Author.Rules.{rules}
+use Rattle.runs.proofs.Lays.{Sliding}
 use Rattle.runs.proofs.laying.slide.Given as goal
 
 abbrev pub invariant-loop-n : goal.invariant-loop-n

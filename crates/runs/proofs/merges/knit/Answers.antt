@@ -1,7 +1,4 @@
-use Prim.Native.Nat.{◌+◌, ◌-◌}
-use lib.ListN.{length}
-use Rattle.runs.proofs.Knits.{Knitting, knitting_start, knitting_next, knitted_first, knitted_second}
-use borrow.Author.Rules.{rules}
+use Rattle.runs.proofs.Knits.{knitting_start, knitting_next, knitted_first, knitted_second}
 use Rattle.runs.proofs.merges.knit.Goals as goal
 
 pub loop-i-init : goal.loop-i-init

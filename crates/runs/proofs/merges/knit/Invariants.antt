@@ -1,7 +1,6 @@
 use Prim.Native.Nat.{◌+◌, ◌-◌}
 use lib.ListN.{length}
-use Rattle.runs.proofs.Knits.{Knitting, knitting_start, knitting_next, knitted_first, knitted_second}
-use borrow.Author.Rules.{rules}
+use Rattle.runs.proofs.Knits.{Knitting}
 use Rattle.runs.proofs.merges.knit.Given as goal
 
 abbrev pub invariant-loop-i : goal.invariant-loop-i

@@ -1,5 +1,4 @@
 use Rattle.runs.proofs.Joins.{met-later, met-earlier}
-use borrow.Author.Rules.{rules}
 use Rattle.runs.proofs.merges.meet.Goals as goal
 
 pub returns-then-last : goal.returns-then-last

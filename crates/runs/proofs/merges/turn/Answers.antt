@@ -2,7 +2,6 @@ use native.Mathlib.Omega.{arith}
 use Rattle.runs.proofs.Knits.{turned-first, turned-second, turned-later, turned-earlier}
 use mathlib.Core.Bool.{true}
 use Rattle.runs.proofs.Knits.{laid_in, slid_in}
-use borrow.Author.Rules.{rules}
 use Rattle.runs.proofs.merges.turn.Goals as goal
 
 pub overflow_add-result : goal.overflow_add-result

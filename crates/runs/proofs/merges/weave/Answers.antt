@@ -1,5 +1,4 @@
 use Rattle.runs.proofs.Knits.{woven}
-use borrow.Author.Rules.{rules}
 use Rattle.runs.proofs.merges.weave.Goals as goal
 
 pub returns : goal.returns

@@ -1,7 +1,6 @@
 use native.Mathlib.Omega.{arith}
 use lib.ListN.{length-set}
 use Rattle.runs.proofs.Pairs.{pairs-within, pairs_set}
-use borrow.Author.Rules.{rules}
 use Rattle.runs.proofs.places.set_place.Goals as goal
 
 pub overflow_mul-index : goal.overflow_mul-index

@@ -1,5 +1,4 @@
 use Rattle.runs.proofs.Orders.{arranged-all}
-use borrow.Author.Rules.{rules}
 use Rattle.runs.proofs.sorts.arrange.Goals as goal
 
 pub returns : goal.returns

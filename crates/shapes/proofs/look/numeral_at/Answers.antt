@@ -1,7 +1,6 @@
 use mathlib.Core.Path.{sym, ◌∙◌}
 use native.Mathlib.Omega.{arith}
 use Rattle.shapes.proofs.Looks.{numeral-there, no-numeral}
-use borrow.Author.Rules.{rules}
 use Rattle.shapes.proofs.look.numeral_at.Goals as goal
 
 pub returns-in-BitVec : goal.returns-in-BitVec

@@ -1,7 +1,6 @@
 use mathlib.Core.Path.{sym, ◌∙◌}
 use native.Mathlib.Omega.{arith}
 use Rattle.shapes.proofs.Looks.{symbol-there, no_symbol}
-use borrow.Author.Rules.{rules}
 use Rattle.shapes.proofs.look.symbol_at.Goals as goal
 
 pub returns-in-BitVec : goal.returns-in-BitVec

@@ -1,7 +1,6 @@
 use mathlib.Core.Path.{sym, ◌∙◌}
 use native.Mathlib.Omega.{arith}
 use Rattle.shapes.proofs.Looks.{bits-there, other_width, no_bits}
-use borrow.Author.Rules.{rules}
 use Rattle.shapes.proofs.look.wide_at.Goals as goal
 
 pub returns-then-width-eq-SIXTY_FOUR : goal.returns-then-width-eq-SIXTY_FOUR

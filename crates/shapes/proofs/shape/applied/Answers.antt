@@ -1,6 +1,5 @@
 use mathlib.Core.Path.{sym, ◌∙◌}
 use Rattle.shapes.proofs.Heads.{applied-one, applied_two, applied-ite, applied_three, applied-made}
-use borrow.Author.Rules.{rules}
 use Rattle.shapes.proofs.shape.applied.Goals as goal
 
 pub returns-then-count-eq1 : goal.returns-then-count-eq1

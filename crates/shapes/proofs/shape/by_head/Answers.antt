@@ -3,7 +3,6 @@ use native.Mathlib.Omega.{arith}
 use mathlib.Core.Path.{refl}
 use Rattle.arena.proofs.Views.{node-within}
 use Rattle.shapes.proofs.Heads.{by-atom, by-symbol, by-list}
-use borrow.Author.Rules.{rules}
 use Rattle.shapes.proofs.shape.by_head.Goals as goal
 
 pub overflow_add-at : goal.overflow_add-at

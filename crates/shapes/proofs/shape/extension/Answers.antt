@@ -1,6 +1,5 @@
 use mathlib.Core.Path.{sym, ◌∙◌}
 use Rattle.shapes.proofs.Arms.{ext-not-wide, ext-decimal, ext_datetime, ext_duration, ext-made}
-use borrow.Author.Rules.{rules}
 use Rattle.shapes.proofs.shape.extension.Goals as goal
 
 pub returns-in_default : goal.returns-in_default

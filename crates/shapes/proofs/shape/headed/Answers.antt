@@ -1,6 +1,5 @@
 use mathlib.Core.Path.{sym, ◌∙◌}
 use Rattle.shapes.proofs.Heads.{headed-parts, headed-many, headed-first, headed-not_as, headed-second, headed-not-some, headed-some}
-use borrow.Author.Rules.{rules}
 use Rattle.shapes.proofs.shape.headed.Goals as goal
 
 pub returns-then-parts-ne3 : goal.returns-then-parts-ne3

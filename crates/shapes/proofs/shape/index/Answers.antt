@@ -1,7 +1,6 @@
 use mathlib.Core.Path.{sym, ◌∙◌}
 use native.Mathlib.Omega.{arith}
 use Rattle.shapes.proofs.Pairs.{index-other, index_short, index-other-name, index_bv, bv_within}
-use borrow.Author.Rules.{rules}
 use Rattle.shapes.proofs.shape.index.Goals as goal
 
 pub returns-in_default : goal.returns-in_default

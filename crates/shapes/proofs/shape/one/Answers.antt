@@ -1,6 +1,5 @@
 use mathlib.Core.Path.{sym, ◌∙◌}
 use Rattle.shapes.proofs.Arms.{one-not, one-bvnego, one-some, one-singleton, one-ext}
-use borrow.Author.Rules.{rules}
 use Rattle.shapes.proofs.shape.one.Goals as goal
 
 pub returns-then-text_is : goal.returns-then-text_is

@@ -1,7 +1,6 @@
 use native.Mathlib.Omega.{arith}
 use Rattle.shapes.proofs.Heads.{shape-none, shape-empty, shape-head}
 use Rattle.shapes.proofs.Seen.{list-within}
-use borrow.Author.Rules.{rules}
 use Rattle.shapes.proofs.shape.shape_at.Goals as goal
 
 pub returns-in_default : goal.returns-in_default

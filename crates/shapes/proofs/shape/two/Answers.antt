@@ -1,6 +1,5 @@
 use mathlib.Core.Path.{sym, ◌∙◌}
 use Rattle.shapes.proofs.Arms.{two_or, two-equal, two-bvsaddo, two-bvsmulo, two-union, two_v4, two_v6, two-pair}
-use borrow.Author.Rules.{rules}
 use Rattle.shapes.proofs.shape.two.Goals as goal
 
 pub returns-then-text_is : goal.returns-then-text_is

@@ -1,6 +1,5 @@
 use mathlib.Core.Path.{sym, ◌∙◌}
 use Rattle.shapes.proofs.Pairs.{pair-other, pair-index, pair-none, pair-empty, pair-other-word, pair-named}
-use borrow.Author.Rules.{rules}
 use Rattle.shapes.proofs.shape.worded.Goals as goal
 
 pub returns-in_default : goal.returns-in_default

@@ -1,5 +1,4 @@
 use Rattle.shapes.proofs.Sorts.{list-none, list-word, list-one, list-two, list-other}
-use borrow.Author.Rules.{rules}
 use Rattle.shapes.proofs.sort.sort_list.Goals as goal
 
 pub returns-then-count-eq0 : goal.returns-then-count-eq0

@@ -1,6 +1,5 @@
 use mathlib.Core.Path.{sym, ◌∙◌}
 use Rattle.shapes.proofs.Sorts.{one_option, one_set, one_none}
-use borrow.Author.Rules.{rules}
 use Rattle.shapes.proofs.sort.sort_one.Goals as goal
 
 pub returns-then-text_is : goal.returns-then-text_is

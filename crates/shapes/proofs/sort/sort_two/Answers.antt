@@ -1,6 +1,5 @@
 use mathlib.Core.Path.{sym, ◌∙◌}
 use Rattle.shapes.proofs.Sorts.{two-word, two-index, two-width, two-unnamed, two-other}
-use borrow.Author.Rules.{rules}
 use Rattle.shapes.proofs.sort.sort_two.Goals as goal
 
 pub returns-in_default : goal.returns-in_default
