@@ -1,5 +1,5 @@
 -- Document 02, R-2; SMT-LIB 2.7, theory FixedSizeBitVectors, bvnego, bvsaddo, bvsmulo: closed examples at the ends of the ranges.
-use Rattle.std.specs.Prelude.{◌≡◌, ℕ, ◌-◌, ◌^◌, Bool, true, false, List, [], ◌∷◌, ℤ, negsuc, ◌+ℤ◌, ◌*ℤ◌, neg_ℤ, refl}
+use Rattle.std.specs.Prelude.{◌≡◌, ℕ, ◌-◌, ◌^◌, Bool, true, false, List, [], ◌∷◌, negsuc, ◌+ℤ◌, ◌*ℤ◌, neg_ℤ, refl}
 use Rattle.words.specs.Extension.{signed}
 use Rattle.overflow.specs.Overflow.{tells, number}
 

@@ -1,7 +1,5 @@
-use Prim.Native.Nat.{◌-◌}
 use Rattle.arena_check.proofs.Answers.{no_root, too_many}
-use Rattle.arena_check.proofs.Walks.{Walked, walked_start, walked-wrong, walked_next, walked-long, walked_whole}
-use borrow.Author.Rules.{rules}
+use Rattle.arena_check.proofs.Walks.{walked_start, walked-wrong, walked_next, walked-long, walked_whole}
 use Rattle.arena_check.proofs.check_arena.Goals as goal
 
 pub returns-then-end-eq0 : goal.returns-then-end-eq0

@@ -1,7 +1,5 @@
 use Prim.Native.Nat.{◌-◌}
-use Rattle.arena_check.proofs.Answers.{no_root, too_many}
-use Rattle.arena_check.proofs.Walks.{Walked, walked_start, walked-wrong, walked_next, walked-long, walked_whole}
-use borrow.Author.Rules.{rules}
+use Rattle.arena_check.proofs.Walks.{Walked}
 use Rattle.arena_check.proofs.check_arena.Given as goal
 
 abbrev pub invariant-loop-at : goal.invariant-loop-at

@@ -1,5 +1,5 @@
 use native.Mathlib.Omega.{arith}
-use Rattle.decimals.proofs.Counts.{Counting, counting_start, counting_fits, counting_step, counting_end}
+use Rattle.decimals.proofs.Counts.{counting_start, counting_fits, counting_step, counting_end}
 use borrow.Author.Rules.{rules}
 use Rattle.decimals.proofs.digit_count.Goals as goal
 

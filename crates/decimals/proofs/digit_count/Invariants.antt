@@ -1,6 +1,4 @@
-use native.Mathlib.Omega.{arith}
-use Rattle.decimals.proofs.Counts.{Counting, counting_start, counting_fits, counting_step, counting_end}
-use borrow.Author.Rules.{rules}
+use Rattle.decimals.proofs.Counts.{Counting}
 use Rattle.decimals.proofs.digit_count.Given as goal
 
 abbrev pub invariant-loop-rest : goal.invariant-loop-rest

@@ -1,7 +1,5 @@
-use Prim.Native.Nat.{◌-◌}
 use Rattle.decimals.specs.Decimal.{last_digits}
-use Rattle.decimals.proofs.Puts.{Putting, putting_start, put-within, digit-step, digits-end}
-use borrow.Author.Rules.{rules}
+use Rattle.decimals.proofs.Puts.{putting_start, put-within, digit-step, digits-end}
 use Rattle.decimals.proofs.put_digits.Goals as goal
 
 pub loop-at-init : goal.loop-at-init

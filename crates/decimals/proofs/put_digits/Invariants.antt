@@ -1,7 +1,6 @@
 use Prim.Native.Nat.{◌-◌}
 use Rattle.decimals.specs.Decimal.{last_digits}
-use Rattle.decimals.proofs.Puts.{Putting, putting_start, put-within, digit-step, digits-end}
-use borrow.Author.Rules.{rules}
+use Rattle.decimals.proofs.Puts.{Putting}
 use Rattle.decimals.proofs.put_digits.Given as goal
 
 abbrev pub invariant-loop-at : goal.invariant-loop-at

@@ -5,7 +5,6 @@ use native.Mathlib.Omega.{arith}
 use lib.ListN.{length}
 use Rattle.decimals.proofs.Counts.{count_most}
 use Rattle.decimals.proofs.Texts.{signed-negative, signed-natural, length-decimal}
-use borrow.Author.Rules.{rules}
 use Rattle.decimals.proofs.signed_length.Goals as goal
 
 pub overflow_add-result : goal.overflow_add-result

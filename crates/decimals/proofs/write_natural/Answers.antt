@@ -1,5 +1,4 @@
 use Rattle.decimals.proofs.Texts.{natural-short, natural-put}
-use borrow.Author.Rules.{rules}
 use Rattle.decimals.proofs.write_natural.Goals as goal
 
 pub returns-then-out-need : goal.returns-then-out-need

@@ -1,8 +1,6 @@
 use native.Mathlib.Omega.{arith}
 use lib.ListN.{length-set}
-use mathlib.Core.Path.{◌∙◌}
 use Rattle.decimals.proofs.Texts.{negative_fits, negative-short, negative-put}
-use borrow.Author.Rules.{rules}
 use Rattle.decimals.proofs.write_negative.Goals as goal
 
 pub overflow_add-need : goal.overflow_add-need

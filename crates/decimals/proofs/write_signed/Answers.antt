@@ -1,7 +1,6 @@
 use Rattle.refusals.specs.declared.Refusal.TheVariants.{OutRoom}
 use Rattle.lent.proofs.Lefts.{leaves_as}
 use Rattle.decimals.proofs.Texts.{signed-negative, signed-natural}
-use borrow.Author.Rules.{rules}
 use Rattle.decimals.proofs.write_signed.Goals as goal
 
 pub returns-then-number-lt0 : goal.returns-then-number-lt0

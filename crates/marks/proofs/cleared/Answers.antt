@@ -1,5 +1,4 @@
 use Rattle.marks.proofs.Bits.{clear_already, unit-within, unit-taken}
-use borrow.Author.Rules.{rules}
 use Rattle.marks.proofs.cleared.Goals as goal
 
 pub returns-then-word-bit-eq0 : goal.returns-then-word-bit-eq0

@@ -1,6 +1,5 @@
 use Rattle.marks.proofs.Marks.{marked-is, past-marked}
 use mathlib.Core.Path.{sym}
-use borrow.Author.Rules.{rules}
 use Rattle.marks.proofs.marked.Goals as goal
 
 pub returns-then-marks-place : goal.returns-then-marks-place

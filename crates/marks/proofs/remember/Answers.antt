@@ -2,7 +2,6 @@ use Rattle.marks.specs.Mark.{remembered}
 use Rattle.marks.proofs.Marks.{past-remembered, put_in, put_in_fits, left_out}
 use mathlib.Core.Path.{sym, ap, ◌∙◌}
 use Prim.Native.Nat.{◌/◌}
-use borrow.Author.Rules.{rules}
 use Rattle.marks.proofs.remember.Goals as goal
 
 pub returns-then-marks-place : goal.returns-then-marks-place

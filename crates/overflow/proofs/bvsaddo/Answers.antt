@@ -1,4 +1,4 @@
-use Rattle.std.proofs.Common.{◌+◌, rules}
+use Rattle.std.proofs.Common.{◌+◌}
 use Rattle.words.specs.Pair.{value}
 use Rattle.overflow.proofs.Results.{sum_inside, sum_told}
 use Rattle.overflow.proofs.bvsaddo.Goals as goal

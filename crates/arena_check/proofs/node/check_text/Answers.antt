@@ -1,6 +1,5 @@
 use native.Mathlib.Omega.{arith}
 use Rattle.arena_check.proofs.Texts.{text_gap, text-past, text-whole, text_broken}
-use borrow.Author.Rules.{rules}
 use Rattle.arena_check.proofs.node.check_text.Goals as goal
 
 pub returns-then-offset-from : goal.returns-then-offset-from

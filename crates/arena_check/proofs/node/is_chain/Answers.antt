@@ -1,6 +1,5 @@
 use native.Mathlib.Omega.{arith}
-use Rattle.arena_check.proofs.Chains.{Left, left-start, left_back, left-past, left-next, left_end}
-use borrow.Author.Rules.{rules}
+use Rattle.arena_check.proofs.Chains.{left-start, left_back, left-past, left-next, left_end}
 use Rattle.arena_check.proofs.node.is_chain.Goals as goal
 
 pub loop-left-init : goal.loop-left-init

@@ -1,6 +1,4 @@
-use native.Mathlib.Omega.{arith}
-use Rattle.arena_check.proofs.Chains.{Left, left-start, left_back, left-past, left-next, left_end}
-use borrow.Author.Rules.{rules}
+use Rattle.arena_check.proofs.Chains.{Left}
 use Rattle.arena_check.proofs.node.is_chain.Given as goal
 
 abbrev pub invariant-loop-left : goal.invariant-loop-left

@@ -1,4 +1,3 @@
-use borrow.Author.Rules.{rules}
 use Rattle.arena_check.proofs.node.stay.Goals as goal
 
 pub returns-then-right : goal.returns-then-right

@@ -1,6 +1,5 @@
 use native.Mathlib.Omega.{arith}
 use Rattle.lexicon.proofs.Classes.{entry_at}
-use borrow.Author.Rules.{rules}
 use Rattle.lexicon.proofs.class.class_of.Goals as goal
 
 pub returns : goal.returns

@@ -1,5 +1,4 @@
 use Rattle.lexicon.proofs.Symbols.{in_symbol-other, in_symbol-digit}
-use borrow.Author.Rules.{rules}
 use Rattle.lexicon.proofs.span.in_symbol.Goals as goal
 
 pub returns-then-class-eq-OTHER : goal.returns-then-class-eq-OTHER

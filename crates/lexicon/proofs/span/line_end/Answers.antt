@@ -1,9 +1,6 @@
-use mathlib.Core.Path.{◌≡◌, refl}
-use Prim.Native.Nat.{◌+◌, ◌-◌}
-use lib.ListN.{length, drop}
-use Rattle.lexicon.specs.Span.{in_line, line_span}
+use mathlib.Core.Path.{refl}
+use Rattle.lexicon.specs.Span.{in_line}
 use Rattle.lexicon.proofs.Spans.{span_goes, span_stops, span_ends, line-ends, line-goes}
-use borrow.Author.Rules.{rules}
 use Rattle.lexicon.proofs.span.line_end.Goals as goal
 
 pub loop-at-init : goal.loop-at-init

@@ -1,9 +1,7 @@
-use mathlib.Core.Path.{◌≡◌, refl}
+use mathlib.Core.Path.{◌≡◌}
 use Prim.Native.Nat.{◌+◌, ◌-◌}
 use lib.ListN.{length, drop}
-use Rattle.lexicon.specs.Span.{in_line, line_span}
-use Rattle.lexicon.proofs.Spans.{span_goes, span_stops, span_ends, line-ends, line-goes}
-use borrow.Author.Rules.{rules}
+use Rattle.lexicon.specs.Span.{line_span}
 use Rattle.lexicon.proofs.span.line_end.Given as goal
 
 abbrev pub invariant-loop-at : goal.invariant-loop-at

@@ -1,10 +1,6 @@
-use mathlib.Core.Path.{◌≡◌, refl, sym, ◌∙◌}
-use Prim.Native.Nat.{◌+◌, ◌-◌}
-use borrow.Author.Tests.{not-true, not-false}
-use lib.ListN.{length, drop}
-use Rattle.lexicon.specs.Span.{in_symbol, symbol_span}
+use mathlib.Core.Path.{refl, sym, ◌∙◌}
+use Rattle.lexicon.specs.Span.{in_symbol}
 use Rattle.lexicon.proofs.Spans.{span_goes, span_stops, span_ends}
-use borrow.Author.Rules.{rules}
 use Rattle.lexicon.proofs.span.span_end.Goals as goal
 
 pub loop-at-init : goal.loop-at-init

@@ -1,10 +1,7 @@
-use mathlib.Core.Path.{◌≡◌, refl, sym, ◌∙◌}
+use mathlib.Core.Path.{◌≡◌}
 use Prim.Native.Nat.{◌+◌, ◌-◌}
-use borrow.Author.Tests.{not-true, not-false}
 use lib.ListN.{length, drop}
-use Rattle.lexicon.specs.Span.{in_symbol, symbol_span}
-use Rattle.lexicon.proofs.Spans.{span_goes, span_stops, span_ends}
-use borrow.Author.Rules.{rules}
+use Rattle.lexicon.specs.Span.{symbol_span}
 use Rattle.lexicon.proofs.span.span_end.Given as goal
 
 abbrev pub invariant-loop-at : goal.invariant-loop-at

@@ -1,6 +1,5 @@
 use native.Mathlib.Omega.{arith}
 use Rattle.lexicon.proofs.Symbols.{not-empty, not_started, not-whole, one-run}
-use borrow.Author.Rules.{rules}
 use Rattle.lexicon.proofs.symbol.is_symbol.Goals as goal
 
 pub returns-then-name-eq0 : goal.returns-then-name-eq0

@@ -1,4 +1,4 @@
-use Rattle.std.proofs.Common.{◌≡◌, Bool, sym, ◌∙◌, subst, rules}
+use Rattle.std.proofs.Common.{◌≡◌, Bool, sym, ◌∙◌, subst}
 use Rattle.words.specs.Pair.{value}
 use Rattle.overflow.specs.Overflow.{tells}
 use Rattle.overflow.specs.Sign.{signed_by}

@@ -1,5 +1,4 @@
 use Rattle.overflow.proofs.Sizes.{less-low, less-high, less_none}
-use Rattle.std.proofs.Common.{rules}
 use Rattle.overflow.proofs.size.predecessor.Goals as goal
 
 pub returns-then-low-gt0 : goal.returns-then-low-gt0

@@ -1,4 +1,4 @@
-use Rattle.std.proofs.Common.{◌≡◌, ◌+◌, ◌*◌, sym, ap, ◌∙◌, rules, leb-false, leb-true}
+use Rattle.std.proofs.Common.{sym, ap, ◌∙◌, leb-false, leb-true}
 use Rattle.words.specs.Pair.{value, grown}
 use Rattle.words.proofs.Numbers.{fit-value}
 use Rattle.overflow.proofs.Products.{product-start, product-step, product-falls, total_past, unit-past, product-end}

@@ -1,7 +1,5 @@
-use Rattle.std.proofs.Common.{◌≡◌, ◌+◌, ◌*◌, sym, ap, ◌∙◌, rules, leb-false, leb-true}
-use Rattle.words.specs.Pair.{value, grown}
-use Rattle.words.proofs.Numbers.{fit-value}
-use Rattle.overflow.proofs.Products.{product-start, product-step, product-falls, total_past, unit-past, product-end}
+use Rattle.std.proofs.Common.{◌≡◌, ◌+◌, ◌*◌}
+use Rattle.words.specs.Pair.{value}
 use Rattle.overflow.proofs.size.product.Given as goal
 
 abbrev pub invariant-loop-total : goal.invariant-loop-total

@@ -1,5 +1,4 @@
 use Rattle.overflow.proofs.Sizes.{sum_past, sum-carried, sum-small, sum-fit}
-use Rattle.std.proofs.Common.{rules}
 use Rattle.overflow.proofs.size.sum.Goals as goal
 
 pub returns-then-carry-gt0 : goal.returns-then-carry-gt0

@@ -1,6 +1,5 @@
 use mathlib.Core.Path.{refl}
 use borrow.Author.Tests.{eq-eqb, ne_eqb}
-use borrow.Author.Rules.{rules}
 use Rattle.script.proofs.datatype.datatype_length.Goals as goal
 
 pub returns-then-parameters-eq0 : goal.returns-then-parameters-eq0

@@ -12,7 +12,6 @@ use Rattle.ground.proofs.Tests.{both}
 use Rattle.parts.proofs.Rises.{risen-rise, risen_fall, first_false, second_false}
 use Rattle.parts.proofs.Sizes.{joined-long, last_within}
 use Rattle.script.proofs.Lengths.{datatype_long}
-use borrow.Author.Rules.{rules}
 use Rattle.script.proofs.datatype.declare_datatype.Goals as goal
 
 pub returns-then-exceeds : goal.returns-then-exceeds

@@ -1,7 +1,6 @@
 use Rattle.lent.proofs.Offers.{offers_as}
 use Rattle.parts.specs.Parts.{parts}
 use Rattle.script.proofs.Lengths.{datatype_bare, datatype_parametric}
-use borrow.Author.Rules.{rules}
 use Rattle.script.proofs.datatype.put_datatype.Goals as goal
 
 pub put_bare-requires : goal.put_bare-requires

@@ -1,7 +1,6 @@
 use Rattle.refusals.specs.declared.Refusal.TheVariants.{OutRoom}
 use Rattle.lent.proofs.Lefts.{leaves_as}
 use Rattle.script.proofs.Lines.{check_sat_line}
-use borrow.Author.Rules.{rules}
 use Rattle.script.proofs.fixed.check_sat.Goals as goal
 
 pub returns : goal.returns

@@ -1,7 +1,6 @@
 use Rattle.refusals.specs.declared.Refusal.TheVariants.{OutRoom}
 use Rattle.lent.proofs.Lefts.{leaves_as}
 use Rattle.script.proofs.Lines.{exit_line}
-use borrow.Author.Rules.{rules}
 use Rattle.script.proofs.fixed.exit.Goals as goal
 
 pub returns : goal.returns

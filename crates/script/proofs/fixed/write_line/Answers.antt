@@ -3,7 +3,6 @@ use native.Mathlib.Omega.{arith}
 use Rattle.refusals.specs.declared.Refusal.TheVariants.{OutRoom}
 use Rattle.lent.proofs.Lefts.{leaves-text, leaves-short}
 use Rattle.lent.proofs.Offers.{offers_front}
-use borrow.Author.Rules.{rules}
 use Rattle.script.proofs.fixed.write_line.Goals as goal
 
 pub returns-then-out-need : goal.returns-then-out-need

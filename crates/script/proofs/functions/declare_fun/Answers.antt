@@ -10,7 +10,6 @@ use Rattle.script.proofs.Scripts.{scripted-long, scripted-bad, scripted-short, s
 use Rattle.parts.proofs.Rises.{risen-rise, risen_fall}
 use Rattle.parts.proofs.Sizes.{joined-long, last_within}
 use Rattle.script.proofs.Lengths.{declare_fun_long}
-use borrow.Author.Rules.{rules}
 use Rattle.script.proofs.functions.declare_fun.Goals as goal
 
 pub returns-then-exceeds : goal.returns-then-exceeds

@@ -12,7 +12,6 @@ use Rattle.ground.proofs.Tests.{both-parts}
 use Rattle.parts.proofs.Rises.{risen-rise, risen_fall, even-of}
 use Rattle.parts.proofs.Sizes.{pairs-long, last_within}
 use Rattle.script.proofs.Lengths.{define_fun_long}
-use borrow.Author.Rules.{rules}
 use Rattle.script.proofs.functions.define_fun.Goals as goal
 
 pub returns-then-exceeds : goal.returns-then-exceeds

@@ -1,7 +1,6 @@
 use Rattle.lent.proofs.Offers.{offers_then, offers_as}
 use Rattle.parts.specs.Parts.{parts}
 use Rattle.script.proofs.Lines.{declare_fun_line}
-use borrow.Author.Rules.{rules}
 use Rattle.script.proofs.functions.put_declare_fun.Goals as goal
 
 pub put_joined-four-requires : goal.put_joined-four-requires

@@ -1,8 +1,6 @@
 use Rattle.lent.proofs.Offers.{offers_then, offers_as}
 use Rattle.parts.specs.Parts.{parts}
 use Rattle.script.proofs.Lines.{define_fun_line}
-use mathlib.Core.Path.{◌∙◌}
-use borrow.Author.Rules.{rules}
 use Rattle.script.proofs.functions.put_define_fun.Goals as goal
 
 pub put_pairs-four-requires : goal.put_pairs-four-requires

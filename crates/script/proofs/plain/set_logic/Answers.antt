@@ -1,7 +1,6 @@
 use mathlib.Core.Bool.{true}
 use Rattle.script.proofs.Scripts.{scripted_as}
 use Rattle.script.proofs.Lines.{set_logic_line}
-use borrow.Author.Rules.{rules}
 use Rattle.script.proofs.plain.set_logic.Goals as goal
 
 pub returns : goal.returns

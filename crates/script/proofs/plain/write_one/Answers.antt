@@ -5,7 +5,6 @@ use Rattle.parts.proofs.Limits.{none-long, exceeds-one, long-head}
 use Rattle.script.proofs.Scripts.{scripted-long, scripted-short, scripted-line}
 use Rattle.script.proofs.Lengths.{one-long}
 use Rattle.lent.proofs.Offers.{offers_then}
-use borrow.Author.Rules.{rules}
 use Rattle.script.proofs.plain.write_one.Goals as goal
 
 pub returns-then-exceeds : goal.returns-then-exceeds

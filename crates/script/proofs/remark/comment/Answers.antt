@@ -6,7 +6,6 @@ use Rattle.script.proofs.Scripts.{scripted-long, scripted-short, scripted-line}
 use Rattle.script.proofs.Lines.{comment-line}
 use Rattle.script.proofs.Lengths.{comment-long}
 use Rattle.lent.proofs.Offers.{offers_then, offers_as}
-use borrow.Author.Rules.{rules}
 use Rattle.script.proofs.remark.comment.Goals as goal
 
 pub returns-then-exceeds : goal.returns-then-exceeds
