@@ -1,5 +1,4 @@
 use Rattle.arms.proofs.Whens.{arm-of}
-use borrow.Author.Rules.{rules}
 use Rattle.arms.proofs.arm.write_arm.Goals as goal
 
 pub returns : goal.returns

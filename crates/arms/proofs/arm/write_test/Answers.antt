@@ -1,5 +1,4 @@
 use Rattle.arms.proofs.Whens.{test_of}
-use borrow.Author.Rules.{rules}
 use Rattle.arms.proofs.arm.write_test.Goals as goal
 
 pub returns : goal.returns

@@ -1,5 +1,4 @@
 use Rattle.arms.proofs.Whens.{when_none, when_key}
-use borrow.Author.Rules.{rules}
 use Rattle.arms.proofs.arm.write_when.Goals as goal
 
 pub returns-in-Key : goal.returns-in-Key

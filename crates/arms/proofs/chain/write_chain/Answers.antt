@@ -1,8 +1,5 @@
-use mathlib.Core.Path.{◌≡◌, refl, ◌∙◌}
-use lib.ListN.{length}
-use Prim.Native.Nat.{◌-◌}
-use Rattle.arms.proofs.Chains.{GoingAt, chain-start, chain-past, chain-behind, chain_next, chain-end}
-use borrow.Author.Rules.{rules}
+use mathlib.Core.Path.{refl, ◌∙◌}
+use Rattle.arms.proofs.Chains.{chain-start, chain-past, chain-behind, chain_next, chain-end}
 use Rattle.arms.proofs.chain.write_chain.Goals as goal
 
 pub loop-at-init : goal.loop-at-init

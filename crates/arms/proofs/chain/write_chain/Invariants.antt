@@ -1,8 +1,7 @@
-use mathlib.Core.Path.{◌≡◌, refl, ◌∙◌}
+use mathlib.Core.Path.{◌≡◌}
 use lib.ListN.{length}
 use Prim.Native.Nat.{◌-◌}
-use Rattle.arms.proofs.Chains.{GoingAt, chain-start, chain-past, chain-behind, chain_next, chain-end}
-use borrow.Author.Rules.{rules}
+use Rattle.arms.proofs.Chains.{GoingAt}
 use Rattle.arms.proofs.chain.write_chain.Given as goal
 
 abbrev pub invariant-loop-at : goal.invariant-loop-at

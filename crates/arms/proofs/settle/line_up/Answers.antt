@@ -1,5 +1,4 @@
 use Rattle.arms.proofs.Settles.{lined}
-use borrow.Author.Rules.{rules}
 use Rattle.arms.proofs.settle.line_up.Goals as goal
 
 pub returns : goal.returns

@@ -1,5 +1,4 @@
 use Rattle.arms.proofs.Settles.{settles-behind, settles-past, settles-lines}
-use borrow.Author.Rules.{rules}
 use Rattle.arms.proofs.settle.settle.Goals as goal
 
 pub returns-then-end-start : goal.returns-then-end-start

@@ -1,5 +1,4 @@
 use Rattle.arms.proofs.Tables.{else_of}
-use borrow.Author.Rules.{rules}
 use Rattle.arms.proofs.table.write_else.Goals as goal
 
 pub returns : goal.returns

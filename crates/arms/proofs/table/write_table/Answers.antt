@@ -1,5 +1,4 @@
 use Rattle.arms.proofs.Tables.{table-tests, table-chain}
-use borrow.Author.Rules.{rules}
 use Rattle.arms.proofs.table.write_table.Goals as goal
 
 pub returns-in-Tests : goal.returns-in-Tests

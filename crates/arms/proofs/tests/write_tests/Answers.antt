@@ -1,9 +1,6 @@
-use mathlib.Core.Path.{◌≡◌, refl, ◌∙◌}
+use mathlib.Core.Path.{refl, ◌∙◌}
 use native.Mathlib.Omega.{arith}
-use lib.ListN.{length}
-use Prim.Native.Nat.{◌-◌, ◌≤◌}
-use Rattle.arms.proofs.Disjuncts.{GoingAt, tests-start, tests-end, tests-next}
-use borrow.Author.Rules.{rules}
+use Rattle.arms.proofs.Disjuncts.{tests-start, tests-end, tests-next}
 use Rattle.arms.proofs.tests.write_tests.Goals as goal
 
 pub loop-i-init : goal.loop-i-init

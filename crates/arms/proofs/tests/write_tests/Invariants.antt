@@ -1,9 +1,7 @@
-use mathlib.Core.Path.{◌≡◌, refl, ◌∙◌}
-use native.Mathlib.Omega.{arith}
+use mathlib.Core.Path.{◌≡◌}
 use lib.ListN.{length}
 use Prim.Native.Nat.{◌-◌, ◌≤◌}
-use Rattle.arms.proofs.Disjuncts.{GoingAt, tests-start, tests-end, tests-next}
-use borrow.Author.Rules.{rules}
+use Rattle.arms.proofs.Disjuncts.{GoingAt}
 use Rattle.arms.proofs.tests.write_tests.Given as goal
 
 abbrev pub invariant-loop-i : goal.invariant-loop-i

@@ -3,7 +3,6 @@ use native.Mathlib.Omega.{arith}
 use mathlib.Core.Path.{refl}
 use Rattle.commands.proofs.Links.{link-atom, link-parts, link_headless, link-other, link-arm}
 use Rattle.shapes.proofs.Seen.{list-within}
-use borrow.Author.Rules.{rules}
 use Rattle.commands.proofs.chain.link_at.Goals as goal
 
 pub returns-in_default : goal.returns-in_default

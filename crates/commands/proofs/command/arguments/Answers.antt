@@ -1,6 +1,5 @@
 use mathlib.Core.Path.{refl}
 use Rattle.commands.proofs.Commands.{arguments-none, arguments-many, arguments-other, arguments-pair}
-use borrow.Author.Rules.{rules}
 use Rattle.commands.proofs.command.arguments.Goals as goal
 
 pub returns-then-count-eq0 : goal.returns-then-count-eq0

@@ -1,7 +1,6 @@
 use native.Mathlib.Omega.{arith}
 use Rattle.commands.proofs.Commands.{command-atom, command-parts, command-five}
 use Rattle.shapes.proofs.Seen.{list-within}
-use borrow.Author.Rules.{rules}
 use Rattle.commands.proofs.command.command_at.Goals as goal
 
 pub returns-in_default : goal.returns-in_default

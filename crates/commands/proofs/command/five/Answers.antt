@@ -2,7 +2,6 @@ use mathlib.Core.Path.{sym, ◌∙◌}
 use native.Mathlib.Omega.{arith}
 use Rattle.commands.proofs.Commands.{five-none, five-unnamed, five-atom, five-other, five-arguments, last-fifth}
 use Rattle.shapes.proofs.Seen.{list-within}
-use borrow.Author.Rules.{rules}
 use Rattle.commands.proofs.command.five.Goals as goal
 
 pub returns-in_default : goal.returns-in_default

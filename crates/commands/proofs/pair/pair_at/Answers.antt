@@ -1,7 +1,6 @@
 use native.Mathlib.Omega.{arith}
 use Rattle.commands.proofs.Pairs.{pair-atom, pair_parts, pair-two}
 use Rattle.shapes.proofs.Seen.{list-within}
-use borrow.Author.Rules.{rules}
 use Rattle.commands.proofs.pair.pair_at.Goals as goal
 
 pub returns-in_default : goal.returns-in_default

@@ -1,6 +1,4 @@
-use mathlib.Core.Path.{refl}
 use Rattle.commands.proofs.Pairs.{two_none, two-word}
-use borrow.Author.Rules.{rules}
 use Rattle.commands.proofs.pair.two.Goals as goal
 
 pub returns-in_default : goal.returns-in_default

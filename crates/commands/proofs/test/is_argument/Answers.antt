@@ -1,6 +1,5 @@
 use mathlib.Core.Path.{refl}
 use Rattle.commands.proofs.Keys.{argument-not, argument-asked}
-use borrow.Author.Rules.{rules}
 use Rattle.commands.proofs.test.is_argument.Goals as goal
 
 pub returns-in_default : goal.returns-in_default

@@ -3,7 +3,6 @@ use native.Mathlib.Omega.{arith}
 use mathlib.Core.Path.{refl}
 use Rattle.commands.proofs.Keys.{key-atom, key-parts, key_headless, key-other, key_right, key_left, key-neither}
 use Rattle.shapes.proofs.Seen.{list-within}
-use borrow.Author.Rules.{rules}
 use Rattle.commands.proofs.test.key_at.Goals as goal
 
 pub returns-in_default : goal.returns-in_default

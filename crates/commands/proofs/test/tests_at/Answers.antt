@@ -3,7 +3,6 @@ use native.Mathlib.Omega.{arith}
 use mathlib.Core.Path.{refl}
 use Rattle.commands.proofs.Tests.{tests-atom, tests-empty, tests_headless, tests-other, tests_or}
 use Rattle.shapes.proofs.Seen.{list-within}
-use borrow.Author.Rules.{rules}
 use Rattle.commands.proofs.test.tests_at.Goals as goal
 
 pub returns-in_default : goal.returns-in_default

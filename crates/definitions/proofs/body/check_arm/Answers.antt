@@ -1,5 +1,4 @@
 use Rattle.definitions.proofs.Arms.{arm-keyed, arm_shapeless}
-use borrow.Author.Rules.{rules}
 use Rattle.definitions.proofs.body.check_arm.Goals as goal
 
 pub returns-in-Key : goal.returns-in-Key

@@ -1,5 +1,4 @@
 use Rattle.definitions.proofs.Functions.{body-chain, body-other, body-tests}
-use borrow.Author.Rules.{rules}
 use Rattle.definitions.proofs.body.check_body.Goals as goal
 
 pub returns-then-is_bool : goal.returns-then-is_bool

@@ -1,8 +1,5 @@
 use native.Mathlib.Omega.{arith}
-use Rattle.definitions.proofs.Chains.{LeftAt, chain-start, chain-past, chain-behind, chain-refused, chain_next, chain-end}
-use lib.ListN.{length}
-use Prim.Native.Nat.{◌-◌}
-use borrow.Author.Rules.{rules}
+use Rattle.definitions.proofs.Chains.{chain-start, chain-past, chain-behind, chain-refused, chain_next, chain-end}
 use Rattle.definitions.proofs.body.check_chain.Goals as goal
 
 pub loop-at-init : goal.loop-at-init

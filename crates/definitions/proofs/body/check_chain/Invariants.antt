@@ -1,8 +1,6 @@
-use native.Mathlib.Omega.{arith}
-use Rattle.definitions.proofs.Chains.{LeftAt, chain-start, chain-past, chain-behind, chain-refused, chain_next, chain-end}
+use Rattle.definitions.proofs.Chains.{LeftAt}
 use lib.ListN.{length}
 use Prim.Native.Nat.{◌-◌}
-use borrow.Author.Rules.{rules}
 use Rattle.definitions.proofs.body.check_chain.Given as goal
 
 abbrev pub invariant-loop-at : goal.invariant-loop-at

@@ -1,5 +1,4 @@
 use Rattle.definitions.proofs.Arms.{test_keyed, test_shapeless}
-use borrow.Author.Rules.{rules}
 use Rattle.definitions.proofs.body.check_test.Goals as goal
 
 pub returns-in-Key : goal.returns-in-Key

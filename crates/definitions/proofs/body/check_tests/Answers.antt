@@ -1,7 +1,5 @@
 use native.Mathlib.Omega.{arith}
-use Rattle.definitions.proofs.Tests.{LeftAt, tests-start, tests-end, tests-refused, tests-next}
-use Prim.Native.Nat.{◌-◌, ◌≤◌}
-use borrow.Author.Rules.{rules}
+use Rattle.definitions.proofs.Tests.{tests-start, tests-end, tests-refused, tests-next}
 use Rattle.definitions.proofs.body.check_tests.Goals as goal
 
 pub loop-i-init : goal.loop-i-init

@@ -1,7 +1,5 @@
-use native.Mathlib.Omega.{arith}
-use Rattle.definitions.proofs.Tests.{LeftAt, tests-start, tests-end, tests-refused, tests-next}
+use Rattle.definitions.proofs.Tests.{LeftAt}
 use Prim.Native.Nat.{◌-◌, ◌≤◌}
-use borrow.Author.Rules.{rules}
 use Rattle.definitions.proofs.body.check_tests.Given as goal
 
 abbrev pub invariant-loop-i : goal.invariant-loop-i

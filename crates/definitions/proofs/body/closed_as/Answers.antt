@@ -3,7 +3,6 @@ use Rattle.definitions.specs.declared.measure.Measured.{Measured}
 use Rattle.definitions.specs.Measure.{closed_as}
 use Rattle.literals.specs.Answer.{capped}
 use Prim.Native.Nat.{ℕ, ◌+◌}
-use borrow.Author.Rules.{rules}
 use Rattle.definitions.proofs.body.closed_as.Goals as goal
 
 pub returns-in-Need : goal.returns-in-Need

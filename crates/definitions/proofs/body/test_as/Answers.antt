@@ -1,7 +1,6 @@
 use mathlib.Core.Path.{sym, ◌∙◌, ap}
 use Rattle.definitions.specs.declared.measure.Measured.{Measured}
 use Rattle.definitions.specs.Measure.{test_as}
-use borrow.Author.Rules.{rules}
 use Rattle.definitions.proofs.body.test_as.Goals as goal
 
 pub returns-in-Need : goal.returns-in-Need

@@ -1,5 +1,4 @@
 use Rattle.definitions.proofs.Functions.{function-first, function-second, function-argument, function-result, function-body}
-use borrow.Author.Rules.{rules}
 use Rattle.definitions.proofs.function.check_function.Goals as goal
 
 pub returns-then-row-argument : goal.returns-then-row-argument

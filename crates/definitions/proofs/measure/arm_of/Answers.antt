@@ -2,7 +2,6 @@ use mathlib.Core.Path.{◌∙◌, ap}
 use Rattle.definitions.proofs.Measures.{arm-first, arm-second, arm-key, arm-value, arm-both}
 use Rattle.literals.specs.Answer.{capped}
 use Prim.Native.Nat.{ℕ, ◌+◌}
-use borrow.Author.Rules.{rules}
 use Rattle.definitions.proofs.measure.arm_of.Goals as goal
 
 pub returns-then-row-argument : goal.returns-then-row-argument

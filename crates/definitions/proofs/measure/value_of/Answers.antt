@@ -1,5 +1,4 @@
 use Rattle.definitions.proofs.Measures.{value-other, value_same, value-refused}
-use borrow.Author.Rules.{rules}
 use Rattle.definitions.proofs.measure.value_of.Goals as goal
 
 pub returns-then-row-wanted : goal.returns-then-row-wanted

@@ -1,5 +1,4 @@
 use Rattle.definitions.proofs.Variables.{value-is}
-use borrow.Author.Rules.{rules}
 use Rattle.definitions.proofs.value.check_value.Goals as goal
 
 pub returns : goal.returns

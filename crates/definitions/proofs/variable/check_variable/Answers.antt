@@ -1,5 +1,4 @@
 use Rattle.definitions.proofs.Variables.{variable-sort, variable-value}
-use borrow.Author.Rules.{rules}
 use Rattle.definitions.proofs.variable.check_variable.Goals as goal
 
 pub returns-in-Row : goal.returns-in-Row

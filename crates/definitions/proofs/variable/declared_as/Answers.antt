@@ -1,5 +1,4 @@
 use Rattle.definitions.proofs.Measures.{declared_other, declared_same, declared_refused}
-use borrow.Author.Rules.{rules}
 use Rattle.definitions.proofs.variable.declared_as.Goals as goal
 
 pub returns-then-declared-row : goal.returns-then-declared-row

@@ -1,9 +1,7 @@
 use mathlib.Core.Path.{subst}
 use mathlib.Core.Bool.{Bool, true, ◌&&◌}
-use borrow.Author.Rules.{rules}
 use Rattle.equality.specs.Notes.{Met, MetAt}
 use Rattle.equality.proofs.Clears.{both_nested, met-empty, met-one, met-both, met-left, part_none}
-use Prim.Native.Nat.{ℕ, ◌<◌}
 use Rattle.equality.proofs.flags.+all_met.Goals as goal
 
 pub returns-then-allow-eq0 : goal.returns-then-allow-eq0

@@ -1,9 +1,8 @@
 use mathlib.Core.Path.{sym, subst}
 use mathlib.Core.List.{List}
-use borrow.Author.Rules.{rules}
 use Rattle.equality.specs.Notes.{Cleared, ClearsAt}
 use Rattle.equality.proofs.Clears.{both_nested, clear-empty, clear-one, clear_both, part_none}
-use Prim.Native.Nat.{ℕ, ◌<◌}
+use Prim.Native.Nat.{ℕ}
 use Rattle.equality.proofs.flags.+clear_members.Goals as goal
 
 pub returns-then-allow-eq0 : goal.returns-then-allow-eq0

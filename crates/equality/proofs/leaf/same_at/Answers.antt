@@ -1,6 +1,5 @@
 use mathlib.Core.Path.{refl, ap₂, ◌∙◌}
 use Rattle.arena.specs.Text.{same_text}
-use borrow.Author.Rules.{rules}
 use Rattle.equality.proofs.leaf.same_at.Goals as goal
 
 pub returns : goal.returns

@@ -1,7 +1,6 @@
 use borrow.Enum.Refused.{opened}
 use Rattle.arena.specs.Text.{text_at}
 use Rattle.equality.proofs.Leaves.{entity-other-row, entity-same-row, member-other-row, member-same-row, entity-unlike}
-use borrow.Author.Rules.{rules}
 use Rattle.equality.proofs.leaf.same_entity.Goals as goal
 
 pub returns-then-row-other : goal.returns-then-row-other

@@ -1,7 +1,6 @@
 use mathlib.Core.Path.{refl}
 use Rattle.shapes.specs.declared.shape.Kind.{Kind}
 use Rattle.equality.proofs.Leaves.{kinds-are}
-use borrow.Author.Rules.{rules}
 use Rattle.equality.proofs.leaf.same_kind.Goals as goal
 
 pub returns-in-Decimal-b : goal.returns-in-Decimal-b

@@ -1,6 +1,5 @@
 use borrow.Enum.Refused.{opened}
 use Rattle.equality.proofs.Parts.{part-atom, part-empty, part-one, part-both, part-other}
-use borrow.Author.Rules.{rules}
 use Rattle.equality.proofs.part.part_at.Goals as goal
 
 pub returns-in_default : goal.returns-in_default

@@ -2,7 +2,6 @@ use mathlib.Core.Bool.{false}
 use Rattle.equality.specs.declared.side.Compared.{Compared}
 use Rattle.forms.specs.declared.form.Form.{Form}
 use Rattle.equality.proofs.Sides.{compared, entity-left, member-left, no-form-left}
-use borrow.Author.Rules.{rules}
 use Rattle.equality.proofs.side.compare.Goals as goal
 
 pub returns-in-Truth : goal.returns-in-Truth

@@ -4,7 +4,6 @@ use mathlib.Core.List.{[], ◌∷◌}
 use native.Mathlib.Omega.{arith}
 use Rattle.forms.specs.declared.form.Form.{Form}
 use Rattle.equality.proofs.Sides.{tags_differ, nothings}
-use borrow.Author.Rules.{rules}
 use Rattle.equality.proofs.side.compare_nothing.Goals as goal
 
 pub returns-in_default : goal.returns-in_default

@@ -3,7 +3,6 @@ use mathlib.Core.Path.{refl}
 use mathlib.Core.List.{[], ◌∷◌}
 use Rattle.forms.specs.declared.form.Form.{Form}
 use Rattle.equality.proofs.Sides.{record_differs, rows_differ, fields_differ, fields-left}
-use borrow.Author.Rules.{rules}
 use Rattle.equality.proofs.side.compare_record.Goals as goal
 
 pub returns-in_default : goal.returns-in_default

@@ -5,7 +5,6 @@ use native.Mathlib.Omega.{arith}
 use Rattle.forms.specs.declared.form.Form.{Form}
 use Rattle.equality.proofs.Sides.{tags_differ, truths}
 use mathlib.Core.Bool.{Bool, not, cond}
-use borrow.Author.Rules.{rules}
 use Rattle.equality.proofs.side.compare_truth.Goals as goal
 
 pub returns-in_default : goal.returns-in_default

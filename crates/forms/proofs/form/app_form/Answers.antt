@@ -1,5 +1,4 @@
 use Rattle.forms.proofs.Apps.{app-none, app_as_some, app-some, app-empty, app-singleton, app-union, app-extension, app-indexed, app-made, app-unary, app-binary, app-other}
-use borrow.Author.Rules.{rules}
 use Rattle.forms.proofs.form.app_form.Goals as goal
 
 pub returns-in-AsNone : goal.returns-in-AsNone

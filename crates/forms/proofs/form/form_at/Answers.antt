@@ -1,5 +1,4 @@
 use Rattle.forms.proofs.Nodes.{node-bits, node-string, node-word, node-app, node-other}
-use borrow.Author.Rules.{rules}
 use Rattle.forms.proofs.form.form_at.Goals as goal
 
 pub returns-in-BitVec : goal.returns-in-BitVec

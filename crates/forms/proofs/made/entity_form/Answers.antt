@@ -1,6 +1,5 @@
 use borrow.Enum.Refused.{opened}
 use Rattle.forms.proofs.Leaves.{entity-string, entity-other}
-use borrow.Author.Rules.{rules}
 use Rattle.forms.proofs.made.entity_form.Goals as goal
 
 pub returns-in_default : goal.returns-in_default

@@ -1,6 +1,5 @@
 use mathlib.Core.Path.{refl}
 use Rattle.forms.proofs.Rows.{made_found, made_missing}
-use borrow.Author.Rules.{rules}
 use Rattle.forms.proofs.made.made_form.Goals as goal
 
 pub returns-in-Row : goal.returns-in-Row

@@ -1,6 +1,5 @@
 use borrow.Enum.Refused.{opened}
 use Rattle.forms.proofs.Rows.{row-entity, row_record, row_other}
-use borrow.Author.Rules.{rules}
 use Rattle.forms.proofs.made.row_form.Goals as goal
 
 pub returns-in-Entity : goal.returns-in-Entity

@@ -1,6 +1,5 @@
 use mathlib.Core.Path.{refl}
 use Rattle.forms.proofs.Leaves.{indexed-number, indexed-refused}
-use borrow.Author.Rules.{rules}
 use Rattle.forms.proofs.number.indexed_form.Goals as goal
 
 pub returns-in-Number : goal.returns-in-Number

@@ -4,7 +4,6 @@ use Prim.Native.Nat.{ℕ}
 use Rattle.words.specs.declared.digits.Radix.{Radix}
 use Rattle.words.specs.Run.{parsed}
 use Rattle.forms.proofs.Leaves.{unsigned-none, unsigned-plus, unsigned-bare}
-use borrow.Author.Rules.{rules}
 use Rattle.forms.proofs.number.parse_number.Goals as goal
 
 pub returns-then-digits-eq0 : goal.returns-then-digits-eq0

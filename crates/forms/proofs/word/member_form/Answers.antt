@@ -1,5 +1,4 @@
 use Rattle.forms.proofs.Leaves.{member-words}
-use borrow.Author.Rules.{rules}
 use Rattle.forms.proofs.word.member_form.Goals as goal
 
 pub returns : goal.returns

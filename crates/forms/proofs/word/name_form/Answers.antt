@@ -1,6 +1,5 @@
 use mathlib.Core.Path.{sym, ◌∙◌}
 use Rattle.forms.proofs.Leaves.{name_true, name_false, name-member, name-unknown}
-use borrow.Author.Rules.{rules}
 use Rattle.forms.proofs.word.name_form.Goals as goal
 
 pub returns-then-same : goal.returns-then-same

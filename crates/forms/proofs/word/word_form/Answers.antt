@@ -1,6 +1,5 @@
 use mathlib.Core.Path.{refl}
 use Rattle.forms.proofs.Leaves.{word_as}
-use borrow.Author.Rules.{rules}
 use Rattle.forms.proofs.word.word_form.Goals as goal
 
 pub returns : goal.returns

@@ -1,8 +1,7 @@
 use mathlib.Core.Path.{ap₂}
-use Prim.Native.Nat.{ℕ, ◌+◌, ◌-◌}
+use Prim.Native.Nat.{ℕ, ◌+◌}
 use native.Mathlib.Omega.{arith}
-use Rattle.listing.proofs.Pieces.{Laying, laying_start, laying_step, laying_end}
-use borrow.Author.Rules.{rules}
+use Rattle.listing.proofs.Pieces.{laying_start, laying_step, laying_end}
 use Rattle.listing.proofs.entry.write_entries.Goals as goal
 
 pub overflow_add-rows : goal.overflow_add-rows

@@ -1,8 +1,5 @@
-use mathlib.Core.Path.{ap₂}
-use Prim.Native.Nat.{ℕ, ◌+◌, ◌-◌}
-use native.Mathlib.Omega.{arith}
-use Rattle.listing.proofs.Pieces.{Laying, laying_start, laying_step, laying_end}
-use borrow.Author.Rules.{rules}
+use Prim.Native.Nat.{◌-◌}
+use Rattle.listing.proofs.Pieces.{Laying}
 use Rattle.listing.proofs.entry.write_entries.Given as goal
 
 abbrev pub invariant-loop-slot : goal.invariant-loop-slot

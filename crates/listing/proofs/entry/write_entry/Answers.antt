@@ -1,6 +1,5 @@
 use mathlib.Core.Path.{refl}
 use Rattle.listing.proofs.Pieces.{entry-none, entry-variable, entry-function}
-use borrow.Author.Rules.{rules}
 use Rattle.listing.proofs.entry.write_entry.Goals as goal
 
 pub returns-then-node-eq0 : goal.returns-then-node-eq0

@@ -1,5 +1,4 @@
 use Rattle.listing.proofs.Readings.{by-body, by-variable, by-refused}
-use borrow.Author.Rules.{rules}
 use Rattle.listing.proofs.function.write_function.Goals as goal
 
 pub returns-in-Variable : goal.returns-in-Variable

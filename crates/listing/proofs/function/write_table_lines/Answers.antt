@@ -1,5 +1,4 @@
 use Rattle.listing.proofs.Pieces.{body-laid}
-use borrow.Author.Rules.{rules}
 use Rattle.listing.proofs.function.write_table_lines.Goals as goal
 
 pub returns : goal.returns

@@ -1,6 +1,5 @@
 use native.Mathlib.Omega.{arith}
 use Rattle.listing.proofs.Sizes.{header-sum, header-need}
-use borrow.Author.Rules.{rules}
 use Rattle.listing.proofs.header.header_need.Goals as goal
 
 pub overflow_add-result : goal.overflow_add-result

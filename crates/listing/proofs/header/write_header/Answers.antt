@@ -1,5 +1,4 @@
 use Rattle.lent.proofs.Offers.{offers_then}
-use borrow.Author.Rules.{rules}
 use Rattle.listing.proofs.header.write_header.Goals as goal
 
 pub returns : goal.returns

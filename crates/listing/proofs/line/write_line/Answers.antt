@@ -1,5 +1,4 @@
 use Rattle.lent.proofs.Offers.{offers_then}
-use borrow.Author.Rules.{rules}
 use Rattle.listing.proofs.line.write_line.Goals as goal
 
 pub returns : goal.returns

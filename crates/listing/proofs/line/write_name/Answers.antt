@@ -1,5 +1,4 @@
 use Rattle.listing.proofs.Pieces.{name_offered}
-use borrow.Author.Rules.{rules}
 use Rattle.listing.proofs.line.write_name.Goals as goal
 
 pub returns : goal.returns

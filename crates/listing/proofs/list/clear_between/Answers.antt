@@ -1,5 +1,4 @@
 use Rattle.listing.proofs.Wholes.{zeroed-none, zeroed-past, zeroed}
-use borrow.Author.Rules.{rules}
 use Rattle.listing.proofs.list.clear_between.Goals as goal
 
 pub returns-then-end-start : goal.returns-then-end-start

@@ -1,5 +1,4 @@
 use Rattle.listing.proofs.Wholes.{reply_listed, reply_no-list}
-use borrow.Author.Rules.{rules}
 use Rattle.listing.proofs.list.list_checked.Goals as goal
 
 pub returns-in-Children : goal.returns-in-Children

@@ -1,6 +1,5 @@
 use mathlib.Core.Path.{refl}
 use Rattle.listing.proofs.Wholes.{tables-passed, tables-refused}
-use borrow.Author.Rules.{rules}
 use Rattle.listing.proofs.list.list_form.Goals as goal
 
 pub returns-in-Passed : goal.returns-in-Passed

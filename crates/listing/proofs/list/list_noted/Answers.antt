@@ -1,5 +1,4 @@
 use Rattle.listing.proofs.Wholes.{finish-short, finish-written}
-use borrow.Author.Rules.{rules}
 use Rattle.listing.proofs.list.list_noted.Goals as goal
 
 pub returns-then-out-need : goal.returns-then-out-need

@@ -1,5 +1,4 @@
 use Rattle.listing.proofs.Wholes.{parts-done, parts-refused}
-use borrow.Author.Rules.{rules}
 use Rattle.listing.proofs.list.list_parts.Goals as goal
 
 pub returns-in-Done : goal.returns-in-Done

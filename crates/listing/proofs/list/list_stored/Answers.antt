@@ -1,5 +1,4 @@
 use Rattle.listing.proofs.Wholes.{stored-tree, stored_refused}
-use borrow.Author.Rules.{rules}
 use Rattle.listing.proofs.list.list_stored.Goals as goal
 
 pub returns-in-Tree : goal.returns-in-Tree

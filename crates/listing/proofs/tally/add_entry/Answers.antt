@@ -1,6 +1,5 @@
 use mathlib.Core.Path.{refl}
 use Rattle.listing.proofs.Tallies.{add_none, add-variable, add-function}
-use borrow.Author.Rules.{rules}
 use Rattle.listing.proofs.tally.add_entry.Goals as goal
 
 pub returns-then-node-eq0 : goal.returns-then-node-eq0

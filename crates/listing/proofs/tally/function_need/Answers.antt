@@ -1,5 +1,4 @@
 use Rattle.listing.proofs.Sizes.{function-sum}
-use borrow.Author.Rules.{rules}
 use Rattle.listing.proofs.tally.function_need.Goals as goal
 
 pub returns : goal.returns

@@ -1,5 +1,4 @@
 use Rattle.listing.proofs.Sizes.{name-long}
-use borrow.Author.Rules.{rules}
 use Rattle.listing.proofs.tally.name_size.Goals as goal
 
 pub returns : goal.returns

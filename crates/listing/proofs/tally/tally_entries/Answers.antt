@@ -1,8 +1,7 @@
 use mathlib.Core.Path.{ap₂}
-use Prim.Native.Nat.{ℕ, ◌+◌, ◌-◌}
+use Prim.Native.Nat.{ℕ, ◌+◌}
 use native.Mathlib.Omega.{arith}
-use Rattle.listing.proofs.Tallies.{Sofar, tally_start, tally_step, tally_end}
-use borrow.Author.Rules.{rules}
+use Rattle.listing.proofs.Tallies.{tally_start, tally_step, tally_end}
 use Rattle.listing.proofs.tally.tally_entries.Goals as goal
 
 pub overflow_add-rows : goal.overflow_add-rows

@@ -1,8 +1,5 @@
-use mathlib.Core.Path.{ap₂}
-use Prim.Native.Nat.{ℕ, ◌+◌, ◌-◌}
-use native.Mathlib.Omega.{arith}
-use Rattle.listing.proofs.Tallies.{Sofar, tally_start, tally_step, tally_end}
-use borrow.Author.Rules.{rules}
+use Prim.Native.Nat.{◌-◌}
+use Rattle.listing.proofs.Tallies.{Sofar}
 use Rattle.listing.proofs.tally.tally_entries.Given as goal
 
 abbrev pub invariant-loop-slot : goal.invariant-loop-slot

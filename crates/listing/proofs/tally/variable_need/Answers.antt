@@ -1,5 +1,4 @@
 use Rattle.listing.proofs.Sizes.{variable-sum}
-use borrow.Author.Rules.{rules}
 use Rattle.listing.proofs.tally.variable_need.Goals as goal
 
 pub returns : goal.returns

@@ -1,5 +1,4 @@
 use Rattle.listing.proofs.Pieces.{variable-laid}
-use borrow.Author.Rules.{rules}
 use Rattle.listing.proofs.variable.write_variable.Goals as goal
 
 pub returns : goal.returns

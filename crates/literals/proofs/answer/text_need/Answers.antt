@@ -1,6 +1,5 @@
 use native.Mathlib.Omega.{arith}
 use Rattle.decimals.proofs.Counts.{count_most}
-use borrow.Author.Rules.{rules}
 use Rattle.literals.proofs.answer.text_need.Goals as goal
 
 pub overflow_add-digit_count : goal.overflow_add-digit_count

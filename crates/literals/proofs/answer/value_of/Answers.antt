@@ -1,5 +1,4 @@
 use Rattle.literals.proofs.Answers.{value_row, value-refused}
-use borrow.Author.Rules.{rules}
 use Rattle.literals.proofs.answer.value_of.Goals as goal
 
 pub returns-in-Row : goal.returns-in-Row

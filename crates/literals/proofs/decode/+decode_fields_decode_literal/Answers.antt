@@ -1,11 +1,10 @@
 use Rattle.literals.specs.Answer.{capped}
 use mathlib.Core.Path.{refl, sym, ◌∙◌, ap}
-use Prim.Native.Nat.{◌*◌, ◌+◌, ◌-◌, ◌≤◌}
+use Prim.Native.Nat.{◌+◌}
 use native.Mathlib.Omega.{arith}
-use Rattle.literals.proofs.Walks.{LeftAt, left-start, left_end, left-refused, left-next}
+use Rattle.literals.proofs.Walks.{left-start, left_end, left-refused, left-next}
 use Rattle.literals.proofs.Decodes.{literal_nested, literal-done, literal-one, literal-two, literal_record}
-use borrow.Author.Rules.{rules}
-use Prim.Native.Nat.{ℕ, ◌<◌}
+use Prim.Native.Nat.{ℕ}
 use Rattle.literals.proofs.decode.+decode_fields_decode_literal.Goals as goal
 
 pub decode_fields-loop-i-init : goal.decode_fields-loop-i-init

@@ -1,5 +1,4 @@
 use Rattle.literals.proofs.Fields.{field-other, field-takes, field-refused}
-use borrow.Author.Rules.{rules}
 use Rattle.literals.proofs.decode.field_of.Goals as goal
 
 pub returns-then-row-wanted : goal.returns-then-row-wanted

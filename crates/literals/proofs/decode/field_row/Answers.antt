@@ -1,6 +1,5 @@
 use native.Mathlib.Omega.{arith}
 use Rattle.literals.proofs.Fields.{no_field}
-use borrow.Author.Rules.{rules}
 use Rattle.literals.proofs.decode.field_row.Goals as goal
 
 pub returns-then-fields-first : goal.returns-then-fields-first

@@ -1,7 +1,6 @@
 use native.Mathlib.Omega.{arith}
 use Rattle.decimals.proofs.Counts.{count_most}
 use Rattle.literals.proofs.Fields.{record_none, record_some}
-use borrow.Author.Rules.{rules}
 use Rattle.literals.proofs.decode.record_need.Goals as goal
 
 pub overflow_add-frame : goal.overflow_add-frame

@@ -1,6 +1,5 @@
 use Rattle.literals.specs.declared.form.Form.{Form}
 use Rattle.literals.proofs.Forms.{bare-row, bare_missing}
-use borrow.Author.Rules.{rules}
 use Rattle.literals.proofs.form.bare_none.Goals as goal
 
 pub returns-in-Row : goal.returns-in-Row

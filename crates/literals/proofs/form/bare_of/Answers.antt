@@ -1,5 +1,4 @@
 use Rattle.literals.proofs.Forms.{bare-none, bare-empty, bare-refused}
-use borrow.Author.Rules.{rules}
 use Rattle.literals.proofs.form.bare_of.Goals as goal
 
 pub returns-in-Option : goal.returns-in-Option

@@ -1,5 +1,4 @@
 use Rattle.literals.proofs.Forms.{expect_any, expect_row, expect_none}
-use borrow.Author.Rules.{rules}
 use Rattle.literals.proofs.form.expect_in.Goals as goal
 
 pub returns-in-Any : goal.returns-in-Any

@@ -1,5 +1,4 @@
 use Rattle.literals.proofs.Forms.{finish-some, finish_as, finish-single, finish-refused}
-use borrow.Author.Rules.{rules}
 use Rattle.literals.proofs.form.finish.Goals as goal
 
 pub returns-in-Some : goal.returns-in-Some

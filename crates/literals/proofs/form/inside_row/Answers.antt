@@ -1,5 +1,4 @@
 use Rattle.literals.proofs.Forms.{inside_option, inside-set}
-use borrow.Author.Rules.{rules}
 use Rattle.literals.proofs.form.inside_row.Goals as goal
 
 pub returns-in-Option : goal.returns-in-Option

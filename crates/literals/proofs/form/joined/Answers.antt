@@ -1,5 +1,4 @@
 use Rattle.literals.proofs.Unions.{join_rows, join_first, join_second, join_sets}
-use borrow.Author.Rules.{rules}
 use Rattle.literals.proofs.form.joined.Goals as goal
 
 pub returns-then-row-other : goal.returns-then-row-other

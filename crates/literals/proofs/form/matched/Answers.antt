@@ -1,5 +1,4 @@
 use Rattle.literals.proofs.Answers.{match_other, match_same, match_refused}
-use borrow.Author.Rules.{rules}
 use Rattle.literals.proofs.form.matched.Goals as goal
 
 pub returns-then-row-wanted : goal.returns-then-row-wanted

@@ -1,5 +1,4 @@
 use Rattle.literals.proofs.Forms.{option_there}
-use borrow.Author.Rules.{rules}
 use Rattle.literals.proofs.form.option_row.Goals as goal
 
 pub returns-in-Option : goal.returns-in-Option

@@ -1,5 +1,4 @@
 use Rattle.literals.proofs.Forms.{set_there}
-use borrow.Author.Rules.{rules}
 use Rattle.literals.proofs.form.set_row.Goals as goal
 
 pub returns-in-Set : goal.returns-in-Set

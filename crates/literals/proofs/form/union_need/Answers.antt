@@ -1,6 +1,5 @@
 use native.Mathlib.Omega.{arith}
 use Rattle.literals.proofs.Needs.{union-first, union-second, union-both}
-use borrow.Author.Rules.{rules}
 use Rattle.literals.proofs.form.union_need.Goals as goal
 
 pub returns-then-a-le2 : goal.returns-then-a-le2

@@ -1,5 +1,4 @@
 use Rattle.literals.proofs.Unions.{union_left, union_right, union-values}
-use borrow.Author.Rules.{rules}
 use Rattle.literals.proofs.form.union_of.Goals as goal
 
 pub returns-in-Value-right : goal.returns-in-Value-right

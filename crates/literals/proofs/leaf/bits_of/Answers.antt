@@ -2,7 +2,6 @@ use Prim.Native.Nat.{◌+◌}
 use native.Mathlib.Omega.{arith}
 use Rattle.decimals.proofs.Counts.{count_most}
 use Rattle.literals.proofs.Words.{bits-value}
-use borrow.Author.Rules.{rules}
 use Rattle.literals.proofs.leaf.bits_of.Goals as goal
 
 pub overflow_add-need : goal.overflow_add-need

@@ -4,7 +4,6 @@ use native.Mathlib.Omega.{arith}
 use Rattle.decimals.proofs.Magnitudes.{back}
 use Rattle.values.proofs.Lengths.{signed-most}
 use Rattle.literals.proofs.Words.{extension-value}
-use borrow.Author.Rules.{rules}
 use Rattle.literals.proofs.leaf.extension_of.Goals as goal
 
 pub overflow_add-need : goal.overflow_add-need

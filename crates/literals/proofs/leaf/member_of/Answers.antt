@@ -1,5 +1,4 @@
 use Rattle.literals.proofs.Words.{member-value}
-use borrow.Author.Rules.{rules}
 use Rattle.literals.proofs.leaf.member_of.Goals as goal
 
 pub returns : goal.returns

@@ -1,5 +1,4 @@
 use Rattle.literals.proofs.Words.{string-value}
-use borrow.Author.Rules.{rules}
 use Rattle.literals.proofs.leaf.string_of.Goals as goal
 
 pub returns : goal.returns

@@ -1,6 +1,5 @@
 use mathlib.Core.Path.{sym, ◌∙◌}
 use Rattle.literals.proofs.Words.{word_true, word_false, word-member, word-unknown}
-use borrow.Author.Rules.{rules}
 use Rattle.literals.proofs.leaf.word_lit.Goals as goal
 
 pub returns-then-same : goal.returns-then-same

@@ -2,7 +2,6 @@ use mathlib.Core.Path.{refl, subst}
 use mathlib.Core.List.{List}
 use Prim.Native.Nat.{ℕ}
 use Rattle.literals.specs.Parts.{WordOf}
-use borrow.Author.Rules.{rules}
 use Rattle.literals.proofs.leaf.word_of.Goals as goal
 
 pub returns : goal.returns

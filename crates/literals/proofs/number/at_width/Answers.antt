@@ -1,9 +1,7 @@
 use mathlib.Core.Path.{sym, ◌∙◌}
-use mathlib.Core.Logic.{⊎_elim}
 use native.Mathlib.Omega.{arith}
 use Rattle.words.specs.Pair.{value}
 use Rattle.literals.proofs.Numbers.{width-over, width-zero, width-short, width-whole, width_fits}
-use borrow.Author.Rules.{rules}
 use Rattle.literals.proofs.number.at_width.Goals.{then-low-lt-WHOLE+else-reaches, else-low-lt-WHOLE}
 use Rattle.literals.proofs.number.at_width.Goals as goal
 

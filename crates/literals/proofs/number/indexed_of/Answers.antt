@@ -5,7 +5,6 @@ use lib.ListN.{take, drop}
 use Rattle.literals.specs.Parts.{IndexedOf}
 use Rattle.literals.specs.declared.answer.Literal.{Literal}
 use Rattle.literals.proofs.Numbers.{indexed-number, indexed-refused}
-use borrow.Author.Rules.{rules}
 use Rattle.literals.proofs.number.indexed_of.Goals as goal
 
 pub returns-in-Number : goal.returns-in-Number

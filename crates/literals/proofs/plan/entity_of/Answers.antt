@@ -1,7 +1,6 @@
 use mathlib.Core.Path.{sym, ◌∙◌}
 use native.Mathlib.Omega.{arith}
 use Rattle.literals.proofs.Made.{entity-many, entity-other, entity-string}
-use borrow.Author.Rules.{rules}
 use Rattle.literals.proofs.plan.entity_of.Goals as goal
 
 pub returns-then-count-ne1 : goal.returns-then-count-ne1

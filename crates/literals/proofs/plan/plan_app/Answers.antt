@@ -1,6 +1,5 @@
 use mathlib.Core.Path.{refl}
 use Rattle.literals.proofs.Plans.{arm_operator, arm-other, arm-none, arm-empty, arm_as_some, arm-some, arm-singleton, arm-union, arm-extension, arm-indexed, arm-made}
-use borrow.Author.Rules.{rules}
 use Rattle.literals.proofs.plan.plan_app.Goals as goal
 
 pub returns-in-Uncovered : goal.returns-in-Uncovered

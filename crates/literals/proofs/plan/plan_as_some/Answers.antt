@@ -1,5 +1,4 @@
 use Rattle.literals.proofs.Plans.{as_some-refused, as_some-row, as_some-any}
-use borrow.Author.Rules.{rules}
 use Rattle.literals.proofs.plan.plan_as_some.Goals as goal
 
 pub returns-in-Row-found : goal.returns-in-Row-found

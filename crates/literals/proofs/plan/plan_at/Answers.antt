@@ -1,6 +1,5 @@
 use mathlib.Core.Path.{sym, ◌∙◌}
 use Rattle.literals.proofs.Plans.{at-numeral, at-nothing, at_bits, at-string, at_symbol, at-app}
-use borrow.Author.Rules.{rules}
 use Rattle.literals.proofs.plan.plan_at.Goals as goal
 
 pub returns-in-BitVec : goal.returns-in-BitVec

@@ -2,7 +2,6 @@ use mathlib.Core.Path.{sym, ap}
 use Rattle.literals.specs.declared.form.Form.{Form}
 use Rattle.literals.specs.Plan.{then_of}
 use Rattle.literals.proofs.Plans.{inside_mismatch, inside_one}
-use borrow.Author.Rules.{rules}
 use Rattle.literals.proofs.plan.plan_inside.Goals as goal
 
 pub returns-in-Option : goal.returns-in-Option

@@ -1,5 +1,4 @@
 use Rattle.literals.proofs.Made.{made_row_lem, made_none}
-use borrow.Author.Rules.{rules}
 use Rattle.literals.proofs.plan.plan_made.Goals as goal
 
 pub returns-in-Row : goal.returns-in-Row

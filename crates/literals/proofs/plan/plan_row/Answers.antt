@@ -1,6 +1,5 @@
 use mathlib.Core.Path.{refl}
 use Rattle.literals.proofs.Made.{row-nameless, row-entity, row_record}
-use borrow.Author.Rules.{rules}
 use Rattle.literals.proofs.plan.plan_row.Goals as goal
 
 pub returns-in-Bool : goal.returns-in-Bool

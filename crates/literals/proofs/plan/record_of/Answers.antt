@@ -1,5 +1,4 @@
 use Rattle.literals.proofs.Made.{record_refused, record_planned}
-use borrow.Author.Rules.{rules}
 use Rattle.literals.proofs.plan.record_of.Goals as goal
 
 pub returns-then-many-count : goal.returns-then-many-count

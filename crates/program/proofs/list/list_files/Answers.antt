@@ -1,5 +1,4 @@
 use Rattle.reply.proofs.Bounds.{printed_within}
-use borrow.Author.Rules.{rules}
 use Rattle.program.proofs.list.list_files.Goals as goal
 
 pub slice_bounds-write_all-end : goal.slice_bounds-write_all-end

@@ -1,7 +1,6 @@
 use mathlib.Core.Path.{sym, ap, ◌∙◌}
 use Rattle.reader.specs.declared.tally.Tally.{Tally}
 use Rattle.reader.specs.Judge.{judged}
-use borrow.Author.Rules.{rules}
 use Rattle.reader.proofs.read.judge.Goals as goal
 
 pub returns-in-Scanned : goal.returns-in-Scanned

@@ -1,6 +1,5 @@
 use mathlib.Core.Path.{sym, ap, ◌∙◌}
 use Rattle.reader.specs.Judge.{by_phase}
-use borrow.Author.Rules.{rules}
 use Rattle.reader.proofs.read.judge_scan.Goals as goal
 
 pub returns-in-Going : goal.returns-in-Going

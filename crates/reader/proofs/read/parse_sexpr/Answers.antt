@@ -1,5 +1,4 @@
 use Rattle.reader.proofs.Answers.{too_long, left-refused, ready, stack-room, left-written}
-use borrow.Author.Rules.{rules}
 use Rattle.reader.proofs.read.parse_sexpr.Goals as goal
 
 pub returns-then-input-gt-INPUT_LIMIT : goal.returns-then-input-gt-INPUT_LIMIT

@@ -1,7 +1,6 @@
 use mathlib.Core.Path.{◌∙◌, sym, ap}
 use Rattle.reader.specs.declared.tally.Tally.TheVariants.{Scanned}
 use Rattle.reader.specs.Tally.{sized_turn}
-use borrow.Author.Rules.{rules}
 use Rattle.reader.proofs.tally.atom_turn.Goals as goal
 
 pub adds-requires : goal.adds-requires

@@ -1,8 +1,5 @@
-use borrow.Author.Rules.{rules}
 use mathlib.Core.Path.{sym, ◌∙◌, subst}
-use Prim.Native.Nat.{◌-◌}
 use native.Mathlib.Omega.{arith}
-use lib.ListN.{length}
 use Rattle.tokens.proofs.Lexes.{found_some, found_within, found-there, bytes_of}
 use Rattle.reader.proofs.Sofar.{Sofar, sofar-past, sofar-start, sofar-step, sofar-fault, sofar-end, ample}
 use Rattle.reader.proofs.tally.count_tokens.Goals as goal

@@ -1,5 +1,4 @@
 use Rattle.reader.proofs.Turns.{ample-atom, turn-atom, turn-plain, turn-opening, turn-closing, atomic_bits, atomic_number, atomic_quoted, atomic_name}
-use borrow.Author.Rules.{rules}
 use Rattle.reader.proofs.tally.turn.Goals as goal
 
 pub opens-requires : goal.opens-requires

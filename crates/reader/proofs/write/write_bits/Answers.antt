@@ -6,7 +6,6 @@ use Rattle.words.specs.Extension.{extended}
 use Rattle.brackets.specs.Token.{bits}
 use Rattle.tokens.specs.Piece.{bits_of}
 use Rattle.reader.proofs.Atoms.{no-fault, number-fine, number-left, bits-words, bits_fit}
-use borrow.Author.Rules.{rules}
 use Rattle.reader.proofs.write.write_bits.Goals as goal
 
 pub returns-in_default : goal.returns-in_default

@@ -3,7 +3,6 @@ use Prim.Native.Nat.{ℕ}
 use Rattle.arena.specs.Layout.{symbol_words}
 use Rattle.brackets.specs.Token.{name}
 use Rattle.reader.proofs.Atoms.{name-right, tail-starts, tail-room, text-fine, text-left}
-use borrow.Author.Rules.{rules}
 use Rattle.reader.proofs.write.write_name.Goals as goal
 
 pub slice_bounds-copy-count : goal.slice_bounds-copy-count

@@ -2,7 +2,6 @@ use mathlib.Core.Path.{refl, sym, ◌∙◌}
 use Rattle.words.specs.declared.digits.Radix.TheVariants.{Decimal}
 use Rattle.brackets.specs.Token as T
 use Rattle.reader.proofs.Atoms.{no-fault, number-fine, number-left, numeral-words}
-use borrow.Author.Rules.{rules}
 use Rattle.reader.proofs.write.write_numeral.Goals as goal
 
 pub returns-in_default : goal.returns-in_default

@@ -1,6 +1,5 @@
 use Rattle.tokens.specs.declared.lexeme.Kind.TheVariants as K
 use Rattle.reader.proofs.Pieces.{by_kind, by_bits, by_number, blank-gives, opening-gives, closing-gives, bits_gives, numeral-gives, string-gives, name-gives}
-use borrow.Author.Rules.{rules}
 use Rattle.reader.proofs.write.write_piece.Goals as goal
 
 pub write_open-requires : goal.write_open-requires

@@ -4,7 +4,6 @@ use Rattle.arena.specs.Layout.{string_words}
 use Rattle.brackets.specs.Token.{quoted}
 use Rattle.strings.specs.Text.{text}
 use Rattle.reader.proofs.Atoms.{string-right, tail-starts, tail-room, text-fine, text-left}
-use borrow.Author.Rules.{rules}
 use Rattle.reader.proofs.write.write_string.Goals as goal
 
 pub slice_bounds-write_text-count : goal.slice_bounds-write_text-count

@@ -1,8 +1,6 @@
-use Prim.Native.Nat.{◌-◌}
 use native.Mathlib.Omega.{arith}
-use lib.ListN.{length}
 use Rattle.tokens.proofs.Lexes.{found_some, found_within, found-there, bytes_of}
-use Rattle.reader.proofs.Holds.{Holds, holds-start, holds-fine, holds-again, holds-end, holds-past}
+use Rattle.reader.proofs.Holds.{holds-start, holds-fine, holds-again, holds-end, holds-past}
 use Rattle.reader.proofs.write.write_tokens.Goals as goal
 
 pub begin-scan-requires : goal.begin-scan-requires

@@ -1,7 +1,6 @@
 use Prim.Native.Nat.{◌-◌}
 use lib.ListN.{length}
 use Rattle.replay.specs.Places.{Onward}
-use borrow.Author.Rules.{rules}
 use Rattle.replay.proofs.fields.field_end.Given as goal
 
 abbrev pub invariant-loop-at : goal.invariant-loop-at

@@ -1,9 +1,7 @@
 use mathlib.Core.Path.{◌≡◌}
 use Prim.Native.Nat.{◌-◌, ◌≤◌}
-use native.Mathlib.Omega.{arith}
-use lib.ListN.{length, length-set}
+use lib.ListN.{length}
 use Rattle.replay.specs.Places.{Onward}
-use borrow.Author.Rules.{rules}
 use Rattle.replay.proofs.puts.put.Given as goal
 
 abbrev pub invariant-loop-at : goal.invariant-loop-at

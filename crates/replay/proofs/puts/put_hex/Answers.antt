@@ -1,9 +1,5 @@
-use mathlib.Core.Path.{◌≡◌}
-use Prim.Native.Nat.{◌-◌, ◌≤◌}
 use native.Mathlib.Omega.{arith}
-use lib.ListN.{length, length-set}
-use Rattle.replay.specs.Places.{Onward}
-use borrow.Author.Rules.{rules}
+use lib.ListN.{length-set}
 use Rattle.replay.proofs.puts.put_hex.Goals as goal
 
 pub bounds-out-to-in-loop-at : goal.bounds-out-to-in-loop-at

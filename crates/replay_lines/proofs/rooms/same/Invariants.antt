@@ -1,6 +1,5 @@
 use Prim.Native.Nat.{◌-◌, ◌≤◌}
 use lib.ListN.{length}
-use borrow.Author.Rules.{rules}
 use Rattle.replay_lines.proofs.rooms.same.Given as goal
 
 abbrev pub invariant-loop-at : goal.invariant-loop-at

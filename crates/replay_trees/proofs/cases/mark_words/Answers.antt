@@ -1,7 +1,4 @@
-use mathlib.Core.Path.{◌≡◌}
-use Prim.Native.Nat.{◌-◌}
-use lib.ListN.{length, length-set}
-use borrow.Author.Rules.{rules}
+use lib.ListN.{length-set}
 use Rattle.replay_trees.proofs.cases.mark_words.Goals as goal
 
 pub loop-at-preserved : goal.loop-at-preserved

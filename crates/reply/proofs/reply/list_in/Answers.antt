@@ -1,5 +1,4 @@
 use Rattle.reply.proofs.Spellings.{tables-long, reply_long, refused-long, nothing-spelled, under_1, under_2, under_3, under_4, under_5, spelled-walked}
-use borrow.Author.Rules.{rules}
 use Rattle.reply.proofs.reply.list_in.Goals as goal
 
 pub returns-then-tables-gt-LIMIT : goal.returns-then-tables-gt-LIMIT

@@ -1,6 +1,5 @@
 use Rattle.tokens.proofs.Lexes.{bytes_of}
 use Rattle.reply.proofs.Trees.{text-unread, text-walked}
-use borrow.Author.Rules.{rules}
 use Rattle.reply.proofs.reply.list_text.Goals as goal
 
 pub returns-in-Read : goal.returns-in-Read

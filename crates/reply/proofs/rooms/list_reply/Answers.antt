@@ -1,5 +1,4 @@
 use Rattle.reply.proofs.Given.{in_rooms}
-use borrow.Author.Rules.{rules}
 use Rattle.reply.proofs.rooms.list_reply.Goals as goal
 
 pub returns : goal.returns

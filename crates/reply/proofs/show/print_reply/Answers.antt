@@ -1,5 +1,4 @@
 use Rattle.reply.proofs.Given.{prints-listing, prints-refusal}
-use borrow.Author.Rules.{rules}
 use Rattle.reply.proofs.show.print_reply.Goals as goal
 
 pub returns-in-Length : goal.returns-in-Length

@@ -1,6 +1,5 @@
 use native.Mathlib.Omega.{arith}
 use Rattle.reply.proofs.Lines.{refusal-short, refusal-put, digits-fit}
-use borrow.Author.Rules.{rules}
 use Rattle.reply.proofs.show.put_refusal.Goals as goal
 
 pub overflow_add-need : goal.overflow_add-need

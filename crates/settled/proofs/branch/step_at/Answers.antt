@@ -1,6 +1,5 @@
 use mathlib.Core.Path.{refl, sym, ◌∙◌}
 use Rattle.settled.proofs.Steps.{step-atom, step_other, step-to}
-use borrow.Author.Rules.{rules}
 use Rattle.settled.proofs.branch.step_at.Goals as goal
 
 pub returns-in_default : goal.returns-in_default

@@ -1,7 +1,4 @@
-use Prim.Native.Nat.{◌-◌}
-use lib.ListN.{length}
-use borrow.Author.Rules.{rules}
-use Rattle.settled.proofs.Takes.{Sofar, sofar-start, sofar-stay, sofar-past, sofar-next, sofar-out}
+use Rattle.settled.proofs.Takes.{sofar-start, sofar-stay, sofar-past, sofar-next, sofar-out}
 use Rattle.settled.proofs.branch.taken.Goals as goal
 
 pub loop-place-init : goal.loop-place-init

@@ -1,7 +1,6 @@
 use Prim.Native.Nat.{◌-◌}
 use lib.ListN.{length}
-use borrow.Author.Rules.{rules}
-use Rattle.settled.proofs.Takes.{Sofar, sofar-start, sofar-stay, sofar-past, sofar-next, sofar-out}
+use Rattle.settled.proofs.Takes.{Sofar}
 use Rattle.settled.proofs.branch.taken.Given as goal
 
 abbrev pub invariant-loop-place : goal.invariant-loop-place

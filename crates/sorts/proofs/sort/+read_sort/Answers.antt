@@ -1,7 +1,5 @@
 use Rattle.tables.specs.Sort.{option_of, set_of}
 use Rattle.sorts.proofs.Read.{sort_nested, sort-word, sort-width, sort-unknown, makes_option, makes_set, inner-refused, inner-row}
-use borrow.Author.Rules.{rules}
-use Prim.Native.Nat.{ℕ, ◌<◌}
 use Rattle.sorts.proofs.sort.+read_sort.Goals as goal
 
 pub returns-then-allow-eq0 : goal.returns-then-allow-eq0

@@ -1,5 +1,4 @@
 use Rattle.sorts.proofs.Rows.{row-there, row_missing}
-use borrow.Author.Rules.{rules}
 use Rattle.sorts.proofs.sort.row_of.Goals as goal
 
 pub returns-in-Row : goal.returns-in-Row

@@ -1,6 +1,5 @@
 use native.Mathlib.Omega.{arith}
 use Rattle.sorts.proofs.Rows.{width-over, width-zero, width-row}
-use borrow.Author.Rules.{rules}
 use Rattle.sorts.proofs.sort.sort_width.Goals as goal
 
 pub returns-then-high-ne0 : goal.returns-then-high-ne0

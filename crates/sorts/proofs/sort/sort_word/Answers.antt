@@ -1,6 +1,5 @@
 use mathlib.Core.Path.{sym, ◌∙◌}
 use Rattle.sorts.proofs.Rows.{word-bool, word-string, word-decimal, word_datetime, word_duration, word_row, word-unknown}
-use borrow.Author.Rules.{rules}
 use Rattle.sorts.proofs.sort.sort_word.Goals as goal
 
 pub returns-then-same : goal.returns-then-same

@@ -2,7 +2,6 @@ use mathlib.Core.Path.{refl, subst}
 use mathlib.Core.List.{List}
 use Prim.Native.Nat.{ℕ}
 use Rattle.sorts.specs.Reads.{WordSort}
-use borrow.Author.Rules.{rules}
 use Rattle.sorts.proofs.sort.word_at.Goals as goal
 
 pub returns : goal.returns

@@ -1,5 +1,4 @@
 use Rattle.stazzumpi.proofs.Results.{exports_short, exports_written}
-use borrow.Author.Rules.{rules}
 use Rattle.stazzumpi.proofs.lines.stazzumpi_assert.Goals as goal
 
 pub returns-then-told-lt1 : goal.returns-then-told-lt1

@@ -1,6 +1,5 @@
 use native.Mathlib.Omega.{arith}
 use Rattle.stazzumpi.proofs.ByKind.{kind-found, kind-none}
-use borrow.Author.Rules.{rules}
 use Rattle.stazzumpi.proofs.lookups.find_kind.Goals as goal
 
 pub returns-in-1 : goal.returns-in-1

@@ -1,5 +1,4 @@
 use Rattle.stazzumpi.proofs.Results.{promises_short, promises_call}
-use borrow.Author.Rules.{rules}
 use Rattle.stazzumpi.proofs.lookups.stazzumpi_find_sort.Goals as goal
 
 pub returns-then-told-lt2 : goal.returns-then-told-lt2

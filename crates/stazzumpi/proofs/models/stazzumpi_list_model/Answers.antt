@@ -1,5 +1,4 @@
 use Rattle.stazzumpi.proofs.Results.{promises_short, promises_call}
-use borrow.Author.Rules.{rules}
 use Rattle.stazzumpi.proofs.models.stazzumpi_list_model.Goals as goal
 
 pub returns-then-told-lt1 : goal.returns-then-told-lt1

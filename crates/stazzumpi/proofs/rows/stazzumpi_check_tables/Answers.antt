@@ -1,7 +1,6 @@
 use mathlib.Core.Path.{sym, ap, ◌∙◌}
 use Rattle.told.specs.Tells.{word_of}
 use Rattle.told.specs.Yields.{passed}
-use borrow.Author.Rules.{rules}
 use Rattle.stazzumpi.proofs.rows.stazzumpi_check_tables.Goals as goal
 
 pub returns-in-Passed : goal.returns-in-Passed

@@ -1,5 +1,4 @@
 use Rattle.stazzumpi.proofs.Results.{promises_short, promises_call}
-use borrow.Author.Rules.{rules}
 use Rattle.stazzumpi.proofs.rows.stazzumpi_read_tables.Goals as goal
 
 pub returns-then-told-lt5 : goal.returns-then-told-lt5

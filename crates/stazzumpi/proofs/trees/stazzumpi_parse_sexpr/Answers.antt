@@ -1,5 +1,4 @@
 use Rattle.stazzumpi.proofs.Results.{exports_short, exports_read}
-use borrow.Author.Rules.{rules}
 use Rattle.stazzumpi.proofs.trees.stazzumpi_parse_sexpr.Goals as goal
 
 pub returns-then-told-lt3 : goal.returns-then-told-lt3

@@ -1,10 +1,7 @@
-use mathlib.Core.Path.{◌≡◌, refl}
-use Prim.Native.Nat.{◌+◌, ◌-◌}
-use lib.ListN.{length, drop}
-use Rattle.tables_text.specs.Parse.{apart, span_to}
+use mathlib.Core.Path.{refl}
+use Rattle.tables_text.specs.Parse.{apart}
 use Rattle.lexicon.proofs.Spans.{span_goes, span_stops, span_ends}
 use Rattle.tables_text.proofs.Cuts.{stays, parts}
-use borrow.Author.Rules.{rules}
 use Rattle.tables_text.proofs.line.end_at.Goals as goal
 
 pub loop-at-init : goal.loop-at-init

@@ -1,10 +1,7 @@
-use mathlib.Core.Path.{◌≡◌, refl}
+use mathlib.Core.Path.{◌≡◌}
 use Prim.Native.Nat.{◌+◌, ◌-◌}
 use lib.ListN.{length, drop}
-use Rattle.tables_text.specs.Parse.{apart, span_to}
-use Rattle.lexicon.proofs.Spans.{span_goes, span_stops, span_ends}
-use Rattle.tables_text.proofs.Cuts.{stays, parts}
-use borrow.Author.Rules.{rules}
+use Rattle.tables_text.specs.Parse.{span_to}
 use Rattle.tables_text.proofs.line.end_at.Given as goal
 
 abbrev pub invariant-loop-at : goal.invariant-loop-at

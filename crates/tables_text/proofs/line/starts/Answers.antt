@@ -1,6 +1,5 @@
 use mathlib.Core.Path.{◌∙◌}
 use Rattle.tables_text.proofs.Cuts.{begins-is}
-use borrow.Author.Rules.{rules}
 use Rattle.tables_text.proofs.line.starts.Goals as goal
 
 pub returns : goal.returns

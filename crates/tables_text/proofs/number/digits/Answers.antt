@@ -1,10 +1,6 @@
-use mathlib.Core.Path.{◌≡◌, refl}
-use Prim.Native.Nat.{◌-◌}
+use mathlib.Core.Path.{refl}
 use native.Mathlib.Omega.{arith}
-use lib.ListN.{length, drop}
-use Rattle.tables_text.specs.Parse.{digits_from}
 use Rattle.tables_text.proofs.Numerals.{digits-end, digits_step, digits-below, digits_above, digits-over}
-use borrow.Author.Rules.{rules}
 use Rattle.tables_text.proofs.number.digits.Goals as goal
 
 pub loop-at-init : goal.loop-at-init

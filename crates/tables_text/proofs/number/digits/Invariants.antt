@@ -1,10 +1,7 @@
-use mathlib.Core.Path.{◌≡◌, refl}
+use mathlib.Core.Path.{◌≡◌}
 use Prim.Native.Nat.{◌-◌}
-use native.Mathlib.Omega.{arith}
 use lib.ListN.{length, drop}
 use Rattle.tables_text.specs.Parse.{digits_from}
-use Rattle.tables_text.proofs.Numerals.{digits-end, digits_step, digits-below, digits_above, digits-over}
-use borrow.Author.Rules.{rules}
 use Rattle.tables_text.proofs.number.digits.Given as goal
 
 abbrev pub invariant-loop-at : goal.invariant-loop-at

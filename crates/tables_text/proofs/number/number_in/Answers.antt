@@ -1,6 +1,5 @@
 use Rattle.tables_text.proofs.Numerals.{number-empty, number_digits, number-zero, number_leading}
 use native.Mathlib.Omega.{arith}
-use borrow.Author.Rules.{rules}
 use Rattle.tables_text.proofs.number.number_in.Goals as goal
 
 pub returns-then-s-eq0 : goal.returns-then-s-eq0

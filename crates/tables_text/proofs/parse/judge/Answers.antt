@@ -1,5 +1,4 @@
 use Rattle.tables_text.proofs.Readings.{passing_unparsed, fits_1, fits_2, fits_3, fits_4, fits_5, passing_passed, passing_refused}
-use borrow.Author.Rules.{rules}
 use Rattle.tables_text.proofs.parse.judge.Goals as goal
 
 pub returns-in_default : goal.returns-in_default

@@ -5,7 +5,6 @@ use Rattle.tables_text.specs.Line.{variable_line, function_line, member_line}
 use Rattle.tables_text.specs.Words.{variable_words, function_words, member_words}
 use Rattle.tables_text.specs.Parse.{variable_in, function_in, member_in}
 use Rattle.tables_text.proofs.Parses.{sorts-few, rows_few, within_1, within_2, within_3, parses_other, parses_rows}
-use borrow.Author.Rules.{rules}
 use Rattle.tables_text.proofs.parse.parse_rows.Goals as goal
 
 pub variable_rows-second-requires : goal.variable_rows-second-requires

@@ -1,6 +1,5 @@
 use native.Mathlib.Omega.{arith}
 use Rattle.tables_text.proofs.Readings.{reads-long, text_storable, text-reads}
-use borrow.Author.Rules.{rules}
 use Rattle.tables_text.proofs.read.read_tables.Goals as goal
 
 pub returns-then-text-gt-TEXT_LIMIT : goal.returns-then-text-gt-TEXT_LIMIT

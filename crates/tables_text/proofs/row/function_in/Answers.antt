@@ -3,7 +3,6 @@ use mathlib.Core.Path.{sym, ◌∙◌}
 use native.Mathlib.Omega.{arith}
 use Rattle.ground.specs.Bytes.{bytes}
 use Rattle.tables_text.proofs.Rows.{keyed, unkeyed, function-unkeyed, function_uncut, function-other, function-unread, function-row, function-within}
-use borrow.Author.Rules.{rules}
 use Rattle.tables_text.proofs.row.function_in.Goals as goal
 
 pub returns-then-not-starts : goal.returns-then-not-starts

@@ -1,5 +1,4 @@
 use Rattle.tables_text.proofs.Rows.{before-none, before-other, before-is}
-use borrow.Author.Rules.{rules}
 use Rattle.tables_text.proofs.row.number_before.Goals as goal
 
 pub returns-then-s-end : goal.returns-then-s-end

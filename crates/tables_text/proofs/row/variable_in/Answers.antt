@@ -1,7 +1,6 @@
 use Rattle.std.proofs.Common.{ap, not}
 use Rattle.ground.specs.Bytes.{bytes}
 use Rattle.tables_text.proofs.Rows.{keyed, unkeyed, variable-unkeyed, variable_uncut, variable-other, variable-row}
-use borrow.Author.Rules.{rules}
 use Rattle.tables_text.proofs.row.variable_in.Goals as goal
 
 pub returns-then-not-starts : goal.returns-then-not-starts

@@ -1,5 +1,4 @@
 use Rattle.tables_text.proofs.Forms.{yes, no, form_1, form_2, form_3, form_4, form_5, form-more}
-use borrow.Author.Rules.{rules}
 use Rattle.tables_text.proofs.sort.form_of.Goals as goal
 
 pub returns-then-same : goal.returns-then-same

@@ -1,5 +1,4 @@
 use Rattle.tables_text.proofs.Forms.{yes, no, form-entity, form_record, form-unnamed}
-use borrow.Author.Rules.{rules}
 use Rattle.tables_text.proofs.sort.named_form.Goals as goal
 
 pub returns-then-starts : goal.returns-then-starts

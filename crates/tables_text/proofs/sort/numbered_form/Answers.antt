@@ -1,7 +1,6 @@
 use Rattle.ground.specs.Bytes.{bytes}
 use Rattle.tables_text.proofs.Cuts.{begins-long}
 use Rattle.tables_text.proofs.Forms.{yes, no, form-bits, form_option, form-set, form-named}
-use borrow.Author.Rules.{rules}
 use Rattle.tables_text.proofs.sort.numbered_form.Goals as goal
 
 pub numbered_sort-requires : goal.numbered_sort-requires

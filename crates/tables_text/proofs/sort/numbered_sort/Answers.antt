@@ -1,5 +1,4 @@
 use Rattle.tables_text.proofs.Forms.{numbered_is, numbered-other}
-use borrow.Author.Rules.{rules}
 use Rattle.tables_text.proofs.sort.numbered_sort.Goals as goal
 
 pub returns-in-Is : goal.returns-in-Is

@@ -1,10 +1,7 @@
-use Prim.Native.Nat.{◌-◌}
 use native.Mathlib.Omega.{arith}
-use lib.ListN.{length}
 use Rattle.tables_text.proofs.Cuts.{end_le}
 use Rattle.tables_text.specs.Parse.{space}
-use Rattle.tables_text.proofs.Fields.{Fielding, fielding_start, fielding_end, fielding_other, fielding_on, fielding_room, fielding_step}
-use borrow.Author.Rules.{rules}
+use Rattle.tables_text.proofs.Fields.{fielding_start, fielding_end, fielding_other, fielding_on, fielding_room, fielding_step}
 use Rattle.tables_text.proofs.sort.record_in.Goals as goal
 
 pub loop-at-init : goal.loop-at-init

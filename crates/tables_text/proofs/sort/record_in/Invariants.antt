@@ -1,10 +1,6 @@
 use Prim.Native.Nat.{◌-◌}
-use native.Mathlib.Omega.{arith}
 use lib.ListN.{length}
-use Rattle.tables_text.proofs.Cuts.{end_le}
-use Rattle.tables_text.specs.Parse.{space}
-use Rattle.tables_text.proofs.Fields.{Fielding, fielding_start, fielding_end, fielding_other, fielding_on, fielding_room, fielding_step}
-use borrow.Author.Rules.{rules}
+use Rattle.tables_text.proofs.Fields.{Fielding}
 use Rattle.tables_text.proofs.sort.record_in.Given as goal
 
 abbrev pub invariant-loop-at : goal.invariant-loop-at

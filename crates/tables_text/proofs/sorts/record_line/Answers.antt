@@ -1,6 +1,5 @@
 use native.Mathlib.Omega.{arith}
 use Rattle.tables_text.proofs.SortWalks.{record_fits, record_other, RecordRow, record_count}
-use borrow.Author.Rules.{rules}
 use Rattle.tables_text.proofs.sorts.record_line.Goals as goal
 
 pub slice_bounds-record_in-count : goal.slice_bounds-record_in-count

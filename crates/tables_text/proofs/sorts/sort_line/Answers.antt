@@ -1,6 +1,5 @@
 use native.Mathlib.Omega.{arith}
 use Rattle.tables_text.proofs.SortWalks.{sorted-past, sorted-other, sorted-plain, sorted-starts, sorted-entity, sorted-fine, sorted_record}
-use borrow.Author.Rules.{rules}
 use Rattle.tables_text.proofs.sorts.sort_line.Goals as goal
 
 pub returns-then-text-end : goal.returns-then-text-end

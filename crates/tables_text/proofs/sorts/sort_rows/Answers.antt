@@ -1,6 +1,4 @@
-use Prim.Native.Nat.{◌-◌}
-use Rattle.tables.specs.Rules.{row_limit}
-use Rattle.tables_text.proofs.SortWalks.{Sorting, sorting_start, sorting_full, sorting_fine, sorting_stop, sorting_long, sorting_step}
+use Rattle.tables_text.proofs.SortWalks.{sorting_start, sorting_full, sorting_fine, sorting_stop, sorting_step}
 use borrow.Author.Rules.{rules}
 use Rattle.tables_text.proofs.sorts.sort_rows.Goals as goal
 

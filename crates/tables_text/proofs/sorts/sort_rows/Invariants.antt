@@ -1,7 +1,6 @@
 use Prim.Native.Nat.{◌-◌}
 use Rattle.tables.specs.Rules.{row_limit}
-use Rattle.tables_text.proofs.SortWalks.{Sorting, sorting_start, sorting_full, sorting_fine, sorting_stop, sorting_long, sorting_step}
-use borrow.Author.Rules.{rules}
+use Rattle.tables_text.proofs.SortWalks.{Sorting}
 use Rattle.tables_text.proofs.sorts.sort_rows.Given as goal
 
 abbrev pub invariant-loop-row : goal.invariant-loop-row

@@ -1,5 +1,4 @@
 use Rattle.tables_text.proofs.Stores.{none_told, first_1, first_2, first_3, first_4, first_5, first-none}
-use borrow.Author.Rules.{rules}
 use Rattle.tables_text.proofs.store.answer_for.Goals as goal
 
 pub returns-in_default : goal.returns-in_default

@@ -1,6 +1,4 @@
-use Prim.Native.Nat.{◌-◌}
-use Rattle.tables_text.proofs.Stores.{Fronting, fronting_start, fronting_read, fronting_within, fronting_step, fronting_end}
-use borrow.Author.Rules.{rules}
+use Rattle.tables_text.proofs.Stores.{fronting_start, fronting_read, fronting_within, fronting_step, fronting_end}
 use Rattle.tables_text.proofs.store.copy_words.Goals as goal
 
 pub loop-at-init : goal.loop-at-init

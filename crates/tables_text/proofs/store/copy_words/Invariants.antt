@@ -1,6 +1,5 @@
 use Prim.Native.Nat.{◌-◌}
-use Rattle.tables_text.proofs.Stores.{Fronting, fronting_start, fronting_read, fronting_within, fronting_step, fronting_end}
-use borrow.Author.Rules.{rules}
+use Rattle.tables_text.proofs.Stores.{Fronting}
 use Rattle.tables_text.proofs.store.copy_words.Given as goal
 
 abbrev pub invariant-loop-at : goal.invariant-loop-at

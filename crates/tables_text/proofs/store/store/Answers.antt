@@ -1,5 +1,4 @@
 use Rattle.tables_text.proofs.Stores.{none-stored, all-stored}
-use borrow.Author.Rules.{rules}
 use Rattle.tables_text.proofs.store.store.Goals as goal
 
 pub copy_words-requires : goal.copy_words-requires

@@ -8,7 +8,6 @@ use Rattle.tables_text.specs.Line.{function_line}
 use Rattle.tables_text.specs.Words.{function_words}
 use Rattle.tables_text.proofs.Spelled.{function-sound}
 use Rattle.tables_text.proofs.Walks.{told-no-function, row-function, lined-past, lined-other, lined-row}
-use borrow.Author.Rules.{rules}
 use Rattle.tables_text.proofs.walk.function_line.Goals as goal
 
 pub returns-then-text-end : goal.returns-then-text-end

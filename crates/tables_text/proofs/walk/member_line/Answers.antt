@@ -8,7 +8,6 @@ use Rattle.tables_text.specs.Line.{member_line}
 use Rattle.tables_text.specs.Words.{member_words}
 use Rattle.tables_text.proofs.Spelled.{member-sound}
 use Rattle.tables_text.proofs.Walks.{told-no-member, row-member-at, lined-past, lined-other, lined-row}
-use borrow.Author.Rules.{rules}
 use Rattle.tables_text.proofs.walk.member_line.Goals as goal
 
 pub returns-then-text-end : goal.returns-then-text-end

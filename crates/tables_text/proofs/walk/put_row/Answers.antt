@@ -1,7 +1,6 @@
 use native.Mathlib.Omega.{arith}
 use native.Mathlib.Numerals.{add-one, add-two, add-three, add-four}
 use lib.ListN.{length-set}
-use borrow.Author.Rules.{rules}
 use Rattle.tables_text.proofs.walk.put_row.Goals as goal
 
 pub bounds-table-first-2 : goal.bounds-table-first-2

@@ -8,7 +8,6 @@ use Rattle.tables_text.specs.Line.{variable_line}
 use Rattle.tables_text.specs.Words.{variable_words}
 use Rattle.tables_text.proofs.Spelled.{variable-sound}
 use Rattle.tables_text.proofs.Walks.{told-no-variable, row-variable, lined-past, lined-other, lined-row}
-use borrow.Author.Rules.{rules}
 use Rattle.tables_text.proofs.walk.variable_line.Goals as goal
 
 pub returns-then-text-end : goal.returns-then-text-end

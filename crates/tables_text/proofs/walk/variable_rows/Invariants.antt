@@ -1,12 +1,10 @@
 use Prim.Native.Nat.{◌-◌}
-use mathlib.Core.Path.{refl}
 use Rattle.tables.specs.Rules.{row_limit}
 use Rattle.tables_text.specs.Parse.{variable_in}
 use Rattle.tables_text.specs.Line.{variable_line}
 use Rattle.tables_text.specs.Words.{variable_words}
 use Rattle.tables_text.proofs.Spelled.{variable-sound}
-use Rattle.tables_text.proofs.Walks.{Walking, walking_start, walking_full, walking_room, walking_stop, walking_long, walking_step}
-use borrow.Author.Rules.{rules}
+use Rattle.tables_text.proofs.Walks.{Walking}
 use Rattle.tables_text.proofs.walk.variable_rows.Given as goal
 
 abbrev pub invariant-loop-row : goal.invariant-loop-row

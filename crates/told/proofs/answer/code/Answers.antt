@@ -1,5 +1,4 @@
 use Rattle.told.proofs.Codes.{code_fits, code_is}
-use borrow.Author.Rules.{rules}
 use Rattle.told.proofs.answer.code.Goals as goal
 
 pub overflow_add-result : goal.overflow_add-result

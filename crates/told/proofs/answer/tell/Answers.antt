@@ -1,7 +1,4 @@
-use Prim.Native.Nat.{◌-◌}
-use lib.ListN.{length}
-use Rattle.lent.proofs.Copies.{Copying, copying-start, copying-within, copying-step, copying-end}
-use borrow.Author.Rules.{rules}
+use Rattle.lent.proofs.Copies.{copying-start, copying-within, copying-step, copying-end}
 use Rattle.told.proofs.answer.tell.Goals as goal
 
 pub loop-at-init : goal.loop-at-init

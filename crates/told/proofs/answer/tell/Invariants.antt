@@ -1,7 +1,6 @@
 use Prim.Native.Nat.{◌-◌}
 use lib.ListN.{length}
-use Rattle.lent.proofs.Copies.{Copying, copying-start, copying-within, copying-step, copying-end}
-use borrow.Author.Rules.{rules}
+use Rattle.lent.proofs.Copies.{Copying}
 use Rattle.told.proofs.answer.tell.Given as goal
 
 abbrev pub invariant-loop-at : goal.invariant-loop-at

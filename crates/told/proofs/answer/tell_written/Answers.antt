@@ -1,7 +1,6 @@
 use mathlib.Core.Path.{ap}
 use Rattle.told.specs.Yields.{written}
 use Rattle.told.proofs.Tellings.{tells-numbers, tells_why}
-use borrow.Author.Rules.{rules}
 use Rattle.told.proofs.answer.tell_written.Goals as goal
 
 pub returns-in-Length : goal.returns-in-Length

@@ -1,7 +1,6 @@
 use mathlib.Core.Path.{ap}
 use Rattle.told.specs.Yields.{found_row}
 use Rattle.told.proofs.Tellings.{tells-numbers}
-use borrow.Author.Rules.{rules}
 use Rattle.told.proofs.rows.tell_found.Goals as goal
 
 pub returns-in-Row : goal.returns-in-Row

@@ -1,7 +1,6 @@
 use mathlib.Core.Path.{ap}
 use Rattle.told.specs.Yields.{tables_read}
 use Rattle.told.proofs.Tellings.{tells-numbers, tells_why}
-use borrow.Author.Rules.{rules}
 use Rattle.told.proofs.rows.tell_tables.Goals as goal
 
 pub returns-in-Read : goal.returns-in-Read

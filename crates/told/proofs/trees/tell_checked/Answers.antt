@@ -1,7 +1,6 @@
 use mathlib.Core.Path.{ap}
 use Rattle.told.specs.Yields.{checked}
 use Rattle.told.proofs.Tellings.{tells-numbers, tells_why}
-use borrow.Author.Rules.{rules}
 use Rattle.told.proofs.trees.tell_checked.Goals as goal
 
 pub returns-in-Tree : goal.returns-in-Tree

@@ -1,5 +1,4 @@
 use Rattle.value_text.proofs.Digits.{digit-small, digit_large}
-use borrow.Author.Rules.{rules}
 use Rattle.value_text.proofs.hex.digit.Goals as goal
 
 pub returns-then-worth-lt10 : goal.returns-then-worth-lt10

@@ -1,5 +1,4 @@
 use Rattle.value_text.proofs.Digits.{last-digit-is}
-use borrow.Author.Rules.{rules}
 use Rattle.value_text.proofs.hex.last_digit.Goals as goal
 
 pub returns : goal.returns

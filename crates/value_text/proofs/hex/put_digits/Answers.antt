@@ -1,9 +1,6 @@
-use Rattle.words.specs.Pair.{value}
-use Prim.Native.Nat.{◌-◌}
-use Rattle.decimals.proofs.Puts.{Putting, putting_start, put-within}
+use Rattle.decimals.proofs.Puts.{putting_start, put-within}
 use Rattle.values.specs.Text.{hex}
 use Rattle.value_text.proofs.Digits.{hex-step, hex-end}
-use borrow.Author.Rules.{rules}
 use Rattle.value_text.proofs.hex.put_digits.Goals as goal
 
 pub loop-at-init : goal.loop-at-init

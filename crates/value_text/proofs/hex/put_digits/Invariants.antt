@@ -1,9 +1,7 @@
 use Rattle.words.specs.Pair.{value}
 use Prim.Native.Nat.{◌-◌}
-use Rattle.decimals.proofs.Puts.{Putting, putting_start, put-within}
+use Rattle.decimals.proofs.Puts.{Putting}
 use Rattle.values.specs.Text.{hex}
-use Rattle.value_text.proofs.Digits.{hex-step, hex-end}
-use borrow.Author.Rules.{rules}
 use Rattle.value_text.proofs.hex.put_digits.Given as goal
 
 abbrev pub invariant-loop-at : goal.invariant-loop-at

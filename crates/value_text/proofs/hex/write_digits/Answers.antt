@@ -1,6 +1,5 @@
 use Rattle.words.specs.Pair.{value}
 use Rattle.value_text.proofs.Hexes.{digits-past, digits-beyond, digits-put}
-use borrow.Author.Rules.{rules}
 use Rattle.value_text.proofs.hex.write_digits.Goals as goal
 
 pub returns-then-out-at : goal.returns-then-out-at

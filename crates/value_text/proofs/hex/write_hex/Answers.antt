@@ -1,7 +1,4 @@
-use Prim.Native.Nat.{◌-◌}
-use lib.ListN.{length}
-use Rattle.value_text.proofs.Hexes.{Hexing, hexing_start, hex-past, hex-beyond, hex-first, hex-second, hexing_step, hexing_end}
-use borrow.Author.Rules.{rules}
+use Rattle.value_text.proofs.Hexes.{hexing_start, hex-past, hex-beyond, hex-first, hex-second, hexing_step, hexing_end}
 use Rattle.value_text.proofs.hex.write_hex.Goals as goal
 
 pub returns-then-out-at : goal.returns-then-out-at

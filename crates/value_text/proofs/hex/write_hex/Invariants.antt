@@ -1,7 +1,6 @@
 use Prim.Native.Nat.{◌-◌}
 use lib.ListN.{length}
-use Rattle.value_text.proofs.Hexes.{Hexing, hexing_start, hex-past, hex-beyond, hex-first, hex-second, hexing_step, hexing_end}
-use borrow.Author.Rules.{rules}
+use Rattle.value_text.proofs.Hexes.{Hexing}
 use Rattle.value_text.proofs.hex.write_hex.Given as goal
 
 abbrev pub invariant-loop-i : goal.invariant-loop-i

@@ -1,6 +1,5 @@
 use mathlib.Core.Path.{sym, ◌∙◌}
 use Rattle.value_text.proofs.Leaves.{truth-first, truth-second}
-use borrow.Author.Rules.{rules}
 use Rattle.value_text.proofs.leaf.is_truth.Goals as goal
 
 pub returns-then-same : goal.returns-then-same

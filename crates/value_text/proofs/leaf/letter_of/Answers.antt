@@ -1,7 +1,6 @@
 use mathlib.Core.Path.{refl}
 use Rattle.shapes.specs.declared.shape.Kind.{Kind}
 use Rattle.value_text.proofs.Leaves.{letter_as}
-use borrow.Author.Rules.{rules}
 use Rattle.value_text.proofs.leaf.letter_of.Goals as goal
 
 pub returns-in-Decimal : goal.returns-in-Decimal

@@ -1,5 +1,4 @@
 use Rattle.value_text.proofs.Leaves.{bits-text}
-use borrow.Author.Rules.{rules}
 use Rattle.value_text.proofs.leaf.write_bits.Goals as goal
 
 pub returns : goal.returns

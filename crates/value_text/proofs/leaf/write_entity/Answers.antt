@@ -1,5 +1,4 @@
 use Rattle.value_text.proofs.Leaves.{entity-text}
-use borrow.Author.Rules.{rules}
 use Rattle.value_text.proofs.leaf.write_entity.Goals as goal
 
 pub returns : goal.returns

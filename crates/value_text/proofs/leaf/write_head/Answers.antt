@@ -1,5 +1,4 @@
 use Rattle.value_text.proofs.Leaves.{head-text}
-use borrow.Author.Rules.{rules}
 use Rattle.value_text.proofs.leaf.write_head.Goals as goal
 
 pub returns : goal.returns

@@ -1,5 +1,4 @@
 use Rattle.value_text.proofs.Leaves.{range_holds, indexed-number, indexed-refused}
-use borrow.Author.Rules.{rules}
 use Rattle.value_text.proofs.leaf.write_indexed.Goals as goal
 
 pub returns-in-Number : goal.returns-in-Number

@@ -1,6 +1,5 @@
 use Rattle.value_text.proofs.Leaves.{rest-past, integer_short, integer_text}
 use Rattle.decimals.specs.Decimal.{signed_decimal}
-use borrow.Author.Rules.{rules}
 use Rattle.value_text.proofs.leaf.write_integer.Goals as goal
 
 pub returns-then-out-at : goal.returns-then-out-at

@@ -1,6 +1,5 @@
 use mathlib.Core.Path.{sym, ◌∙◌}
 use Rattle.value_text.proofs.Leaves.{name-truth, name-member, name-unknown}
-use borrow.Author.Rules.{rules}
 use Rattle.value_text.proofs.leaf.write_name.Goals as goal
 
 pub returns-then-is_truth : goal.returns-then-is_truth

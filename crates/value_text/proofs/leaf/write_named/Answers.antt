@@ -1,7 +1,6 @@
 use borrow.Enum.Refused.{opened}
 use Rattle.value_text.proofs.Leaves.{range_holds, named-string, named_other}
-use mathlib.Core.Path.{sym, ap, ◌∙◌}
-use borrow.Author.Rules.{rules}
+use mathlib.Core.Path.{sym, ◌∙◌}
 use Rattle.value_text.proofs.leaf.write_named.Goals as goal
 
 pub returns-in_default : goal.returns-in_default

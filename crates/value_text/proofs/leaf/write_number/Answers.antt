@@ -2,7 +2,6 @@ use Rattle.value_text.proofs.Leaves.{rest-past, rest-short, rest-text}
 use Rattle.decimals.specs.Decimal.{decimal}
 use Rattle.decimals.proofs.Texts.{length-decimal}
 use mathlib.Core.Path.{sym, ◌∙◌}
-use borrow.Author.Rules.{rules}
 use Rattle.value_text.proofs.leaf.write_number.Goals as goal
 
 pub returns-then-out-at : goal.returns-then-out-at

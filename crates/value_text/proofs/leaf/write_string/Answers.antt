@@ -1,5 +1,4 @@
 use Rattle.value_text.proofs.Leaves.{range_holds, string-text}
-use borrow.Author.Rules.{rules}
 use Rattle.value_text.proofs.leaf.write_string.Goals as goal
 
 pub returns : goal.returns

@@ -1,5 +1,4 @@
 use Rattle.value_text.proofs.Leaves.{range_holds, word_as}
-use borrow.Author.Rules.{rules}
 use Rattle.value_text.proofs.leaf.write_word.Goals as goal
 
 pub returns : goal.returns

@@ -1,6 +1,5 @@
 use Rattle.value_text.specs.declared.made.Made.{Made}
 use Rattle.value_text.proofs.Mades.{made_found, made_missing}
-use borrow.Author.Rules.{rules}
 use Rattle.value_text.proofs.made.made_of.Goals as goal
 
 pub returns-in-Row : goal.returns-in-Row

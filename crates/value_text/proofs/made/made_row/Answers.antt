@@ -1,6 +1,5 @@
 use borrow.Enum.Refused.{opened}
 use Rattle.value_text.proofs.Mades.{made-nameless, made-entity, made_record}
-use borrow.Author.Rules.{rules}
 use Rattle.value_text.proofs.made.made_row.Goals as goal
 
 pub returns-in-Entity : goal.returns-in-Entity

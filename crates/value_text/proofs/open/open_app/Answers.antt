@@ -1,6 +1,5 @@
 use Rattle.value_text.specs.declared.open.Opened.{Opened}
 use Rattle.value_text.proofs.Apps.{app-none, app_as_some, app-some, app-set, app-extension, app-indexed, app-made, app-other}
-use borrow.Author.Rules.{rules}
 use Rattle.value_text.proofs.open.open_app.Goals as goal
 
 pub returns-in-AsNone : goal.returns-in-AsNone

@@ -1,7 +1,6 @@
 use Rattle.value_text.specs.declared.open.Opened.{Opened}
 use Rattle.value_text.proofs.Apps.{made-entity, made_record, made_nothing}
 use Rattle.value_text.proofs.Leaves.{range_holds}
-use borrow.Author.Rules.{rules}
 use Rattle.value_text.proofs.open.open_made.Goals as goal
 
 pub returns-in-Entity : goal.returns-in-Entity

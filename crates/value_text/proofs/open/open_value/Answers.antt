@@ -1,6 +1,5 @@
 use Rattle.value_text.specs.declared.open.Opened.{Opened}
 use Rattle.value_text.proofs.Values.{node-bits, node-string, node-word, node-app, node-other}
-use borrow.Author.Rules.{rules}
 use Rattle.value_text.proofs.open.open_value.Goals as goal
 
 pub returns-in-BitVec : goal.returns-in-BitVec

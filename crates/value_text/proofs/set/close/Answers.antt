@@ -1,6 +1,4 @@
-use Prim.Native.Nat.{◌-◌}
-use Rattle.value_text.proofs.Closes.{close-long, closes-none, closes-long, closes-run}
-use borrow.Author.Rules.{rules}
+use Rattle.value_text.proofs.Closes.{closes-none, closes-long, closes-run}
 use Rattle.value_text.proofs.set.close.Goals as goal
 
 pub returns-then-count-eq0 : goal.returns-then-count-eq0

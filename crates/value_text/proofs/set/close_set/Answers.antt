@@ -1,5 +1,4 @@
 use Rattle.value_text.proofs.Sets.{set-none, set-short, set-closed}
-use borrow.Author.Rules.{rules}
 use Rattle.value_text.proofs.set.close_set.Goals as goal
 
 pub returns-then-end-place : goal.returns-then-end-place

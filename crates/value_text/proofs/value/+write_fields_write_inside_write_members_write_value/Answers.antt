@@ -1,15 +1,10 @@
 use borrow.Enum.Refused.{opened}
-use mathlib.Core.Path.{refl, ◌∙◌, ap}
-use Prim.Native.Nat.{◌*◌, ◌+◌, ◌-◌, ◌≤◌}
+use mathlib.Core.Path.{refl, ◌∙◌}
 use native.Mathlib.Omega.{arith}
-use lib.ListN.{length}
-use mathlib.Core.Path.{◌≡◌}
-use borrow.Author.Rules.{rules}
-use Rattle.value_text.proofs.Fields.{LeftAt, left-start, left-next, left_end}
+use Rattle.value_text.proofs.Fields.{left-start, left-next, left_end}
 use Rattle.value_text.proofs.Sets.{members_else, members-one, members_nested, members-two}
 use Rattle.value_text.proofs.Apps.{inside_past, inside-tail}
 use Rattle.value_text.proofs.Values.{value_nested, value-whole, value-fields, value_set}
-use Prim.Native.Nat.{ℕ, ◌<◌}
 use Rattle.value_text.proofs.value.+write_fields_write_inside_write_members_write_value.Goals as goal
 
 pub write_fields-loop-i-init : goal.write_fields-loop-i-init

@@ -1,5 +1,4 @@
 use Rattle.value_text.proofs.Fields.{comma-none, comma-some}
-use borrow.Author.Rules.{rules}
 use Rattle.value_text.proofs.value.write_comma.Goals as goal
 
 pub returns-then-i-eq0 : goal.returns-then-i-eq0

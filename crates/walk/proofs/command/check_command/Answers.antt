@@ -1,5 +1,4 @@
 use Rattle.walk.proofs.Notes.{command-variable, command-function, command-refused}
-use borrow.Author.Rules.{rules}
 use Rattle.walk.proofs.command.check_command.Goals as goal
 
 pub returns-in-Variable : goal.returns-in-Variable

@@ -1,7 +1,6 @@
 use mathlib.Core.Path.{refl}
 use native.Mathlib.Omega.{arith}
 use Rattle.walk.proofs.Notes.{function-inside, function-skipped, function-defined}
-use borrow.Author.Rules.{rules}
 use Rattle.walk.proofs.command.note_function.Goals as goal
 
 pub overflow_add-count : goal.overflow_add-count

@@ -1,5 +1,4 @@
 use Rattle.walk.proofs.Notes.{variable-skipped, variable-defined}
-use borrow.Author.Rules.{rules}
 use Rattle.walk.proofs.command.note_variable.Goals as goal
 
 pub returns-in-Row : goal.returns-in-Row

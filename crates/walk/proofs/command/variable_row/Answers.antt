@@ -2,7 +2,6 @@ use Rattle.tables.specs.Lookup.{FindsVariable}
 use Prim.Native.Nat.{ℕ}
 use mathlib.Core.List.{List}
 use mathlib.Core.Path.{refl, subst}
-use borrow.Author.Rules.{rules}
 use Rattle.walk.proofs.command.variable_row.Goals as goal
 
 pub returns : goal.returns

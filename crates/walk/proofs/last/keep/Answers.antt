@@ -2,7 +2,6 @@ use Prim.Native.Nat.{◌*◌, ◌+◌}
 use native.Mathlib.Omega.{arith}
 use lib.Seq.{lt-length-set}
 use Rattle.walk.proofs.Lasts.{lt_two}
-use borrow.Author.Rules.{rules}
 use Rattle.walk.proofs.last.keep.Goals as goal
 
 pub returns-then-last-slot : goal.returns-then-last-slot

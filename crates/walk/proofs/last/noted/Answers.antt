@@ -1,5 +1,4 @@
 use Rattle.walk.proofs.Lasts.{word-past, word-short}
-use borrow.Author.Rules.{rules}
 use Rattle.walk.proofs.last.noted.Goals as goal
 
 pub returns-then-last-slot : goal.returns-then-last-slot

@@ -1,5 +1,4 @@
 use Rattle.walk.proofs.Notes.{pair_found, pair-none}
-use borrow.Author.Rules.{rules}
 use Rattle.walk.proofs.pair.check_pair.Goals as goal
 
 pub returns-in-Pair : goal.returns-in-Pair

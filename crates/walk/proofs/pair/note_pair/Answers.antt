@@ -1,5 +1,4 @@
 use Rattle.walk.proofs.Notes.{pair-skipped, pair-defined}
-use borrow.Author.Rules.{rules}
 use Rattle.walk.proofs.pair.note_pair.Goals as goal
 
 pub returns-in-Row : goal.returns-in-Row

@@ -1,5 +1,4 @@
 use Rattle.walk.proofs.Notes.{part_as}
-use borrow.Author.Rules.{rules}
 use Rattle.walk.proofs.walk.check_part.Goals as goal
 
 pub returns-in-Model : goal.returns-in-Model

@@ -1,9 +1,7 @@
-use mathlib.Core.Path.{◌≡◌, refl, ap, ◌∙◌}
+use mathlib.Core.Path.{refl, ap, ◌∙◌}
 use lib.ListN.{length}
 use native.Mathlib.Omega.{arith}
-use Prim.Native.Nat.{◌-◌, ◌≤◌}
-use Rattle.walk.proofs.Walks.{LeftAt, walk_start, walk_end, walk_refused, walk-skipped, walk_defines}
-use borrow.Author.Rules.{rules}
+use Rattle.walk.proofs.Walks.{walk_start, walk_end, walk_refused, walk-skipped, walk_defines}
 use Rattle.walk.proofs.walk.walk_parts.Goals as goal
 use Rattle.walk.proofs.walk.walk_parts.Goals.{in-Skipped, in-Defines}
 

@@ -1,10 +1,7 @@
-use mathlib.Core.Path.{◌≡◌, refl, ap, ◌∙◌}
+use mathlib.Core.Path.{◌≡◌}
 use lib.ListN.{length}
-use mathlib.Core.Logic.{⊎_elim}
-use native.Mathlib.Omega.{arith}
 use Prim.Native.Nat.{◌-◌, ◌≤◌}
-use Rattle.walk.proofs.Walks.{LeftAt, walk_start, walk_end, walk_refused, walk-skipped, walk_defines}
-use borrow.Author.Rules.{rules}
+use Rattle.walk.proofs.Walks.{LeftAt}
 use Rattle.walk.proofs.walk.walk_parts.Given as goal
 
 abbrev pub invariant-loop-i : goal.invariant-loop-i
