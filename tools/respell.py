@@ -33,6 +33,23 @@ for _path, _words in [
     ("crates/listing/proofs/Readings.antt", "value_as"),
 ]:
     LOCAL.setdefault(_path, {}).update({w: w.replace("-", "_") + "_lem" for w in _words.split()})
+# A fact that other crates name: the field of a record that is called alike stays.
+for _path in [
+    "crates/listing/proofs/Readings.antt",
+    "crates/shapes/specs/Shows.antt",
+    "crates/arena/proofs/Arenas.antt",
+    "crates/arena/proofs/Layouts.antt",
+    "crates/arena_check/proofs/Builds.antt",
+    "crates/arena_check/proofs/Insides.antt",
+    "crates/arena_check/proofs/Answers.antt",
+    "crates/settled/proofs/Quiet.antt",
+    "crates/settled/proofs/Steps.antt",
+    "crates/equality/proofs/Clears.antt",
+    "crates/equality/proofs/Singles.antt",
+    "crates/equality/proofs/Parts.antt",
+    "crates/arena/specs/Stands.antt",
+]:
+    LOCAL.setdefault(_path, {})["stands"] = "TreeStands"
 DECLARES = re.compile(r"\s*((?:abbrev |unfoldable |pub )*)(record |data |ruleset )?([^\s:(){}.,;]+)((?:\s*[({][^)]*[)}])*)\s*:(?!=)(.*)$")
 TOKEN = re.compile(r"[^\s(){},.;`|\"]+")
 WORD = re.compile(r"[A-Za-z][A-Za-z0-9_'?-]*")
@@ -118,7 +135,8 @@ def turn_antt(text, turned, local, proof):
 
         def one(m):
             w = m.group(0)
-            if w in local and not comment:
+            field = w == "stands" and re.match(r" =(?!=)", line[m.end():])
+            if w in local and not comment and not field:
                 return local[w]
             new = turned.get(w)
             if new is None or comment and "-" in w:

@@ -12,14 +12,14 @@ use Rattle.arena.specs.Tree.{Tree, Trees, bit_vec, numeral, string, symbol, app,
 use Rattle.arena.specs.Arena.{Arena}
 use Rattle.arena.specs.Node.{node_at}
 use Rattle.arena.specs.Text.{text_at}
-use Rattle.arena.specs.Stands.{stands, StandAll}
+use Rattle.arena.specs.Stands.{TreeStands, StandAll}
 use Rattle.arena.proofs.Layouts.{length-words, lays_stands, stands_lays, stands_after}
 
 module _ (ws ts : List ℕ) (t : Tree) where
   text-within : Arena ws ts t → length (text t) ≤ length ts
   text-within a = let e = simp length-take at (ap (λ (l : List ℕ). length l) a.written) in omega arith
 
-  pub arena-stands : Arena ws ts t → stands t ws ts 0 (nodes t) 0 (length (text t))
+  pub arena-stands : Arena ws ts t → TreeStands t ws ts 0 (nodes t) 0 (length (text t))
   arena-stands a =
       lays_stands ws ts t 0 (nodes t) 0 (length (text t))
       (record {
@@ -30,7 +30,7 @@ module _ (ws ts : List ℕ) (t : Tree) where
       })
       (text-within a)
 
-  pub stands-arena : (j y : ℕ) → stands t ws ts 0 j 0 y → j ≤ most_nodes → y ≤ most_text → Sound t → Arena ws ts t
+  pub stands-arena : (j y : ℕ) → TreeStands t ws ts 0 j 0 y → j ≤ most_nodes → y ≤ most_text → Sound t → Arena ws ts t
   stands-arena j y s few short sound =
       let l = stands_lays ws ts t 0 j 0 y s in
       let e = l.next in
@@ -82,7 +82,7 @@ whole (symbol s) = refl
 whole (app us) = refl
 
 module _ (ws ts : List ℕ) where
-  root_of_lem : (t : Tree) (i j x y : ℕ) → stands t ws ts i j x y → root_of ts (node_at ws i) ≡ bare t
+  root_of_lem : (t : Tree) (i j x y : ℕ) → TreeStands t ws ts i j x y → root_of ts (node_at ws i) ≡ bare t
   root_of_lem (bit_vec w n) i j x y s = ap (root_of ts) s.here ∙ ap (bit_vec w) (value-pair n)
   root_of_lem (numeral n) i j x y s = ap (root_of ts) s.here ∙ ap numeral (value-pair n)
   root_of_lem (string s) i j x y h = ap (root_of ts) h.here ∙ ap string h.written
@@ -90,19 +90,19 @@ module _ (ws ts : List ℕ) where
   root_of_lem (app us) i j x y s = ap (root_of ts) s.here
 
   -- a tree that stands where t does has t's root, wherever their texts begin
-  same_root : (t u : Tree) (i j k x y p q : ℕ) → stands t ws ts i j x y → stands u ws ts i k p q → filled (bare t) (below u) ≡ u
+  same_root : (t u : Tree) (i j k x y p q : ℕ) → TreeStands t ws ts i j x y → TreeStands u ws ts i k p q → filled (bare t) (below u) ≡ u
   same_root t u i j k x y p q s r =
       ap (λ (v : Tree). filled v (below u)) (sym (root_of_lem t i j x y s) ∙ root_of_lem u i k p q r) ∙ whole u
 
   mutual
-    pub one-tree : (t u : Tree) (i j k x y p q : ℕ) → stands t ws ts i j x y → stands u ws ts i k p q → t ≡ u
+    pub one-tree : (t u : Tree) (i j k x y p q : ℕ) → TreeStands t ws ts i j x y → TreeStands u ws ts i k p q → t ≡ u
     one-tree (bit_vec w n) u i j k x y p q s r = same_root (bit_vec w n) u i j k x y p q s r
     one-tree (numeral n) u i j k x y p q s r = same_root (numeral n) u i j k x y p q s r
     one-tree (string s) u i j k x y p q h r = same_root (string s) u i j k x y p q h r
     one-tree (symbol s) u i j k x y p q h r = same_root (symbol s) u i j k x y p q h r
     one-tree (app us) u i j k x y p q s r =
         let e : app (below u) ≡ u = same_root (app us) u i j k x y p q s r in
-        let r' = subst (λ (v : Tree). stands v ws ts i k p q) (sym e) r in
+        let r' = subst (λ (v : Tree). TreeStands v ws ts i k p q) (sym e) r in
         let a = s.here in
         let b = r'.here in
         let c : count us ≡ count (below u) = cc in

@@ -13,7 +13,7 @@ use Rattle.arena.specs.Tree.{Tree, Trees, bit_vec, numeral, string, symbol, app,
 use Rattle.arena.specs.Layout.{stride, words, words_of, app_words}
 use Rattle.arena.specs.Node.{node_at, after_at}
 use Rattle.arena.specs.Text.{text_at}
-use Rattle.arena.specs.Stands.{Atom, stands, StandAll}
+use Rattle.arena.specs.Stands.{Atom, TreeStands, StandAll}
 use Rattle.arena.proofs.Prefixes.{Starts, starts_first, starts-others, starts-both}
 use Rattle.arena.proofs.Views.{there, laid, length-laid, node-laid, laid-node, after-of}
 
@@ -152,7 +152,7 @@ module _ (us : Trees) (ws ts : List ℕ) (i j x y : ℕ) where
 -- the layout, seen node by node; the text lies within the bytes, where an empty one might not
 module _ (ws ts : List ℕ) where
   mutual
-    pub lays_stands : (t : Tree) (i j x y : ℕ) → Lays t ws ts i j x y → y ≤ length ts → stands t ws ts i j x y
+    pub lays_stands : (t : Tree) (i j x y : ℕ) → Lays t ws ts i j x y → y ≤ length ts → TreeStands t ws ts i j x y
     lays_stands (bit_vec w n) i j x y h m = lies_atom (BitVec w (n % 2 ^ 64) (n / 2 ^ 64)) refl [] ws ts i j x y h m
     lays_stands (numeral n) i j x y h m = lies_atom (Numeral (n % 2 ^ 64) (n / 2 ^ 64)) refl [] ws ts i j x y h m
     lays_stands (string s) i j x y h m = lies_atom (String (length s) x) refl s ws ts i j x y h m
@@ -179,7 +179,7 @@ module _ (ws ts : List ℕ) where
         }
 
   mutual
-    pub stands_lays : (t : Tree) (i j x y : ℕ) → stands t ws ts i j x y → Lays t ws ts i j x y
+    pub stands_lays : (t : Tree) (i j x y : ℕ) → TreeStands t ws ts i j x y → Lays t ws ts i j x y
     stands_lays (bit_vec w n) i j x y s = atom_lies (BitVec w (n % 2 ^ 64) (n / 2 ^ 64)) refl [] ws ts i j x y s
     stands_lays (numeral n) i j x y s = atom_lies (Numeral (n % 2 ^ 64) (n / 2 ^ 64)) refl [] ws ts i j x y s
     stands_lays (string s) i j x y h = atom_lies (String (length s) x) refl s ws ts i j x y h
@@ -198,14 +198,14 @@ module _ (ws ts : List ℕ) where
         (length-words t i x) j y s.mid s.off f
         (subst (λ (w : List ℕ). Lies w (texts us) (nodes_of us) ws ts s.mid j s.off y) (ap₂ (λ (k z : ℕ). words_of us k z) f.next f.rest) g)
 
-  pub stands-longer : (t : Tree) (i j x y : ℕ) → stands t ws ts i j x y → i < j
+  pub stands-longer : (t : Tree) (i j x y : ℕ) → TreeStands t ws ts i j x y → i < j
   stands-longer t i j x y s = let e = (stands_lays t i j x y s).next in let n = nodes-some t in omega arith
 
   pub stand-longer : (us : Trees) (i j x y : ℕ) → StandAll us ws ts i j x y → i ≤ j
   stand-longer us i j x y s = let e = (stand-lay us i j x y s).next in omega arith
 
   -- the view finds the next node
-  pub stands_after : (t : Tree) (i j x y : ℕ) → stands t ws ts i j x y → j ≡ after_at ws i
+  pub stands_after : (t : Tree) (i j x y : ℕ) → TreeStands t ws ts i j x y → j ≡ after_at ws i
   stands_after (bit_vec w n) i j x y s = s.next ∙ after-of ws i s.here
   stands_after (numeral n) i j x y s = s.next ∙ after-of ws i s.here
   stands_after (string s) i j x y h = h.next ∙ after-of ws i h.here

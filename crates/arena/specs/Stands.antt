@@ -32,13 +32,13 @@ pub record Then (First Others : ℕ → ℕ → Type 0) : Type 0 where
 
 -- the tree stands at node i with its text from x on; the next node is j and the next text offset y
 abbrev mutual
-  pub stands : Tree → List ℕ → List ℕ → ℕ → ℕ → ℕ → ℕ → Type 0
-  stands (bit_vec w n) ws ts i j x y = Atom (BitVec w (n % 2 ^ 64) (n / 2 ^ 64)) [] ws ts i j x y
-  stands (numeral n) ws ts i j x y = Atom (Numeral (n % 2 ^ 64) (n / 2 ^ 64)) [] ws ts i j x y
-  stands (string s) ws ts i j x y = Atom (String (length s) x) s ws ts i j x y
-  stands (symbol s) ws ts i j x y = Atom (Symbol (length s) x) s ws ts i j x y
-  stands (app us) ws ts i j x y = Applied (count us) ws i j (StandAll us ws ts (i + 1) j x y)
+  pub TreeStands : Tree → List ℕ → List ℕ → ℕ → ℕ → ℕ → ℕ → Type 0
+  TreeStands (bit_vec w n) ws ts i j x y = Atom (BitVec w (n % 2 ^ 64) (n / 2 ^ 64)) [] ws ts i j x y
+  TreeStands (numeral n) ws ts i j x y = Atom (Numeral (n % 2 ^ 64) (n / 2 ^ 64)) [] ws ts i j x y
+  TreeStands (string s) ws ts i j x y = Atom (String (length s) x) s ws ts i j x y
+  TreeStands (symbol s) ws ts i j x y = Atom (Symbol (length s) x) s ws ts i j x y
+  TreeStands (app us) ws ts i j x y = Applied (count us) ws i j (StandAll us ws ts (i + 1) j x y)
 
   pub StandAll : Trees → List ℕ → List ℕ → ℕ → ℕ → ℕ → ℕ → Type 0
   StandAll nil ws ts i j x y = Done i j x y
-  StandAll (cons t us) ws ts i j x y = Then (λ m z. stands t ws ts i m x z) (λ m z. StandAll us ws ts m j z y)
+  StandAll (cons t us) ws ts i j x y = Then (λ m z. TreeStands t ws ts i m x z) (λ m z. StandAll us ws ts m j z y)

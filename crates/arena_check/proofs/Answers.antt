@@ -9,7 +9,7 @@ use Rattle.refusals.specs.declared.Refusal.TheVariants.{BadArena}
 use Rattle.arena.specs.Tree.{Tree, nodes, text, most_nodes, most_text, Sound}
 use Rattle.arena.specs.Arena.{Arena}
 use Rattle.arena.specs.Node.{node_at, after_at}
-use Rattle.arena.specs.Stands.{stands}
+use Rattle.arena.specs.Stands.{TreeStands}
 use Rattle.arena.proofs.Layouts.{nodes-some, stands_after, stands_lays}
 use Rattle.arena.proofs.Arenas.{arena-stands, stands-arena, one-arena}
 use Rattle.arena_check.specs.declared.Checked.{Checked}
@@ -48,7 +48,7 @@ module _ (ws ts : List ℕ) where
     all_right k h =
         inside ws ts t 0 (nodes t) 0 (length (text t)) k (arena-stands ws ts t a) a.sound (offset-start ws) (omega arith) h
 
-  stood : (t : Tree) (j y : ℕ) → stands t ws ts 0 j 0 y → Sound t → j ≤ most_nodes → y ≤ most_text → Checks ws ts (Checked.Tree j y)
+  stood : (t : Tree) (j y : ℕ) → TreeStands t ws ts 0 j 0 y → Sound t → j ≤ most_nodes → y ≤ most_text → Checks ws ts (Checked.Tree j y)
   stood t j y s sound few short =
       let l = stands_lays ws ts t 0 j 0 y s in
       let n = l.next in
@@ -80,7 +80,7 @@ module _ (ws ts : List ℕ) where
       whole-tree some few short right =
           let b = all_built ws ts (omega (arith, some)) (subst (RightTo ws ts) e right) in
           stood b.tree end x
-          (subst₃ (λ (j y z : ℕ). stands b.tree ws ts 0 j y z) (sym e) (sym (offset-start ws)) (ap (offset ws) (sym e) ∙ sym o) b.stand)
+          (subst₃ (λ (j y z : ℕ). TreeStands b.tree ws ts 0 j y z) (sym e) (sym (offset-start ws)) (ap (offset ws) (sym e) ∙ sym o) b.stand)
           b.sound few short
 
 -- any two answers are the same

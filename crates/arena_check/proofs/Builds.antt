@@ -11,7 +11,7 @@ use Rattle.arena.specs.declared.node.Node.TheVariants.{BitVec, Numeral, String, 
 use Rattle.arena.specs.Tree.{Tree, Trees, bit_vec, numeral, string, symbol, app, nil, cons, count, Sound, SoundAll}
 use Rattle.arena.specs.Node.{node_at, after_at, after_of}
 use Rattle.arena.specs.Text.{text_at}
-use Rattle.arena.specs.Stands.{Atom, stands, StandAll}
+use Rattle.arena.specs.Stands.{Atom, TreeStands, StandAll}
 use Rattle.arena.proofs.Views.{after-of}
 use Rattle.arena_check.specs.Right.{Right, Written, Chain, takes}
 use Rattle.arena_check.proofs.Offsets.{offset, offset-behind, offset-within, RightTo}
@@ -24,7 +24,7 @@ module _ (ws ts : List ℕ) where
   -- a tree stands at node k with its text behind the text before it
   pub record Built (k : ℕ) : Type 0 where
     pub tree : Tree
-    pub stand : stands tree ws ts k (after_at ws k) (offset ws k) (offset ws (after_at ws k))
+    pub stand : TreeStands tree ws ts k (after_at ws k) (offset ws k) (offset ws (after_at ws k))
     pub sound : Sound tree
 
   record BuiltAll (c p e : ℕ) : Type 0 where

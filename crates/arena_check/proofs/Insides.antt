@@ -15,7 +15,7 @@ use Rattle.arena.specs.declared.node.Node.{Node}
 use Rattle.arena.specs.declared.node.Node.TheVariants.{App}
 use Rattle.arena.specs.Tree.{Tree, Trees, bit_vec, numeral, string, symbol, app, nil, cons, count, BitVector, Sound, SoundAll}
 use Rattle.arena.specs.Node.{node_at, after_at}
-use Rattle.arena.specs.Stands.{Atom, stands, StandAll}
+use Rattle.arena.specs.Stands.{Atom, TreeStands, StandAll}
 use Rattle.arena.proofs.Layouts.{stands-longer, stand-longer, stands_after}
 use Rattle.arena_check.specs.Right.{Right, Words, Written, Chain, takes}
 use Rattle.arena_check.proofs.Offsets.{offset, offset-behind, RightAt}
@@ -45,7 +45,7 @@ module _ (ws ts : List ℕ) where
   seen : (i x : ℕ) {n : Node} → node_at ws i ≡ n → Right n ws ts i x → Right (node_at ws i) ws ts i x
   seen i x q r = subst (λ (n : Node). Right n ws ts i x) (sym q) r
 
-  root_right : (t : Tree) (i j x y : ℕ) → stands t ws ts i j x y → Sound t → Right (node_at ws i) ws ts i x
+  root_right : (t : Tree) (i j x y : ℕ) → TreeStands t ws ts i j x y → Sound t → Right (node_at ws i) ws ts i x
   root_right (bit_vec w n) i j x y s h =
       seen i x s.here (record { number = words_of n h.fits; sound = subst (BitVector w) (sym (value-pair n)) h })
   root_right (numeral n) i j x y s h = seen i x s.here (words_of n h)
@@ -62,7 +62,7 @@ module _ (ws ts : List ℕ) where
   inner-offset us i j x q e = let o = offset-behind ws i q in omega arith
 
   mutual
-    pub tree-offset : (t : Tree) (i j x y : ℕ) → stands t ws ts i j x y → x ≡ offset ws i → y ≡ offset ws j
+    pub tree-offset : (t : Tree) (i j x y : ℕ) → TreeStands t ws ts i j x y → x ≡ offset ws i → y ≡ offset ws j
     tree-offset (bit_vec w n) i j x y s e = atom-offset _ [] i j x y refl s e
     tree-offset (numeral n) i j x y s e = atom-offset _ [] i j x y refl s e
     tree-offset (string r) i j x y s e = atom-offset _ r i j x y refl s e
@@ -75,11 +75,11 @@ module _ (ws ts : List ℕ) where
         trees-offset us s.mid j s.off y s.others (tree-offset t i s.mid x s.off s.first e)
 
   -- the first node of a tree
-  first-right : (t : Tree) (i j x y k : ℕ) → stands t ws ts i j x y → Sound t → x ≡ offset ws i → i ≡ k → RightAt ws ts k
+  first-right : (t : Tree) (i j x y k : ℕ) → TreeStands t ws ts i j x y → Sound t → x ≡ offset ws i → i ≡ k → RightAt ws ts k
   first-right t i j x y k s h e q = subst (RightAt ws ts) q (subst (Right (node_at ws i) ws ts i) e (root_right t i j x y s h))
 
   mutual
-    pub inside : (t : Tree) (i j x y k : ℕ) → stands t ws ts i j x y → Sound t → x ≡ offset ws i → i ≤ k → k < j → RightAt ws ts k
+    pub inside : (t : Tree) (i j x y k : ℕ) → TreeStands t ws ts i j x y → Sound t → x ≡ offset ws i → i ≤ k → k < j → RightAt ws ts k
     inside (bit_vec w n) i j x y k s h e a b = let f = s.next in first-right (bit_vec w n) i j x y k s h e (omega arith)
     inside (numeral n) i j x y k s h e a b = let f = s.next in first-right (numeral n) i j x y k s h e (omega arith)
     inside (string r) i j x y k s h e a b = let f = s.next in first-right (string r) i j x y k s h e (omega arith)

@@ -11,7 +11,7 @@ use Rattle.ground.specs.Lists.{all}
 use Rattle.ground.proofs.Tests.{and-true}
 use Rattle.order.specs.Every.{Every, none, also}
 use Rattle.order.proofs.Everies.{every_map}
-use Rattle.arena.specs.Stands.{stands}
+use Rattle.arena.specs.Stands.{TreeStands}
 use Rattle.arena.specs.Tree.{Tree, Trees, app}
 use Rattle.arena.proofs.Layouts.{stands-longer}
 use Rattle.tables.specs.Sort.{Tables}
@@ -75,7 +75,7 @@ module _ (ms ws ts : List ℕ) (i j : ℕ) (takes : TakesAt ms ws ts i j) (r : P
       let p = part T ms below e l i h.there.next most k.0 vs is in
       record {
         us = p.0;
-        there = record { next = t.there.next; from = t.there.from; rest = t.there.rest; there = subst (λ (x : Tree). stands x ws ts j t.there.next t.there.from t.there.rest) p.1 t.there.there };
+        there = record { next = t.there.next; from = t.there.from; rest = t.there.rest; there = subst (λ (x : Tree). TreeStands x ws ts j t.there.next t.there.from t.there.rest) p.1 t.there.there };
         from = t.behind;
         to = t.within;
         says = p.2;

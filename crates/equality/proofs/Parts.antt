@@ -9,7 +9,7 @@ use native.Mathlib.Omega.{arith}
 use types.Run.{OneOf, miss}
 use denote.Enum.Declared.{tag_of}
 use Rattle.arena.specs.Node.{after_at}
-use Rattle.arena.specs.Stands.{stands}
+use Rattle.arena.specs.Stands.{TreeStands}
 use Rattle.arena.specs.Tree.{Tree, Trees, bit_vec as bits, string as quoted, symbol, app, nil, cons}
 use Rattle.arena.proofs.Layouts.{stands_after, stands-longer}
 use Rattle.refusals.specs.declared.Refusal.TheVariants.{UnmatchedType, UnmatchedRecordType, SetUnionNonLiterals}
@@ -138,7 +138,7 @@ module _ (ws ts : List ℕ) (i : ℕ) (T : Tables) (ms : List ℕ) (below : ℕ)
         };
         at_right = record {
           tree = w;
-          there = record { next = b.there.others.mid; from = b.there.off; rest = b.there.others.off; there = subst (λ (n : ℕ). stands w ws ts n b.there.others.mid b.there.off b.there.others.off) m b.there.others.first };
+          there = record { next = b.there.others.mid; from = b.there.off; rest = b.there.others.off; there = subst (λ (n : ℕ). TreeStands w ws ts n b.there.others.mid b.there.off b.there.others.off) m b.there.others.first };
           behind = omega arith;
           within = omega arith;
           reads = z.first;
@@ -202,7 +202,7 @@ module _ (ws ts : List ℕ) (i : ℕ) (p : Parts) (parts : PartsAt ws i p) where
       let t = h.stood in
       let k = set-app T below e t.tree l vs t.reads is in
       let s : Standing (app k.0) ws ts i =
-      record { next = t.there.next; from = t.there.from; rest = t.there.rest; there = subst (λ (x : Tree). stands x ws ts i t.there.next t.there.from t.there.rest) k.1 t.there.there } in
+      record { next = t.there.next; from = t.there.from; rest = t.there.rest; there = subst (λ (x : Tree). TreeStands x ws ts i t.there.next t.there.from t.there.rest) k.1 t.there.there } in
       (k.0, k.1, f T ms below e l k.0 s (subst (λ (x : Tree). read_with T true (suc below) e x ≡ ok l) k.1 t.reads) t.settled (ap is_ite (sym k.1) ∙ h.plain) vs is most)
 
   pub part-atom : p ≡ Parts.NoList → PartAt ws ts i Part.NoSet

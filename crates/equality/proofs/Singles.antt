@@ -8,7 +8,7 @@ use Prim.Native.Nat.{ℕ, zero, suc, ◌+◌, ◌≤◌}
 use native.Mathlib.Omega.{arith}
 use Rattle.ground.specs.Bytes.{bytes}
 use Rattle.arena.specs.Node.{after_at}
-use Rattle.arena.specs.Stands.{stands}
+use Rattle.arena.specs.Stands.{TreeStands}
 use Rattle.arena.specs.Tree.{Tree, Trees, bit_vec, numeral, string, symbol, app, nil, cons}
 use Rattle.arena.proofs.Layouts.{stands_after, stands-longer}
 use Rattle.order.specs.Every.{Every, none, also}
@@ -112,7 +112,7 @@ module _ (T : Tables) (ws ts : List ℕ) where
         let end : s.next ≡ b.there.others.mid = b.there.others.others.next in
         let h = b.behind in
         let left = below e v f.got (argument ws i 0) (record { next = b.there.mid; from = b.from; rest = b.there.off; there = b.there.first }) f.first in
-        let right = below e w z.got (argument ws i 1) (record { next = b.there.others.mid; from = b.there.off; rest = b.there.others.off; there = subst (λ (n : ℕ). stands w ws ts n b.there.others.mid b.there.off b.there.others.off) q b.there.others.first }) z.first in
+        let right = below e w z.got (argument ws i 1) (record { next = b.there.others.mid; from = b.there.off; rest = b.there.others.off; there = subst (λ (n : ℕ). TreeStands w ws ts n b.there.others.mid b.there.off b.there.others.off) q b.there.others.first }) z.first in
         every_append (Bound i s.next) (singles T ws a v (argument ws i 0)) (singles T ws a w (argument ws i 1))
         (wider (argument ws i 0) b.there.mid i s.next (omega arith) (omega arith) _ left)
         (wider (argument ws i 1) b.there.others.mid i s.next (omega arith) (omega arith) _ right)
@@ -120,7 +120,7 @@ module _ (T : Tables) (ws ts : List ℕ) where
     branch-bounded : (c v w : Tree) → shape us ≡ ite c v w → Chosen T e l a c v w → Bounded (ite c v w)
     branch-bounded c v w d k =
         let u = ite-call us c v w d in
-        let z = three-of ws ts (bytes "ite") c v w i (record { next = s.next; from = s.from; rest = s.rest; there = subst (λ (x : Trees). stands (app x) ws ts i s.next s.from s.rest) u s.there })
+        let z = three-of ws ts (bytes "ite") c v w i (record { next = s.next; from = s.from; rest = s.rest; there = subst (λ (x : Trees). TreeStands (app x) ws ts i s.next s.from s.rest) u s.there })
         (argument ws i 0) (argument ws i 1) (argument ws i 2) refl refl refl in
         rw (decides-of T e l a (omega arith) c v w k) (go k.truth z k.reads)
       where

@@ -12,7 +12,7 @@ use Rattle.refusals.specs.declared.Refusal.{Refusal}
 use Rattle.refusals.specs.declared.Refusal.TheVariants.{UnmatchedType}
 use Rattle.order.specs.Every.{Every, none as no_more, also}
 use Rattle.order.proofs.Everies.{every_append}
-use Rattle.arena.specs.Stands.{stands, StandAll}
+use Rattle.arena.specs.Stands.{TreeStands, StandAll}
 use Rattle.arena.specs.Tree.{Tree, Trees, symbol, app, nil, cons, nodes, nodes_of, text as tree_text, texts as tree_texts, most_nodes, most_text}
 use Rattle.arena.proofs.Layouts.{stands_lays}
 use Rattle.tables.specs.Find.{variable_row, function_row}
@@ -155,7 +155,7 @@ last-of ws ts a b c d e i j x y value s h =
     let n = (stands_lays ws ts e at s5.mid from s5.off s5.first).next in
     let z = s5.others.next in
     let m : at ≡ value = omega arith in
-    record { next = s5.mid; from = from; rest = s5.off; there = subst (λ (k : ℕ). stands e ws ts k s5.mid from s5.off) m s5.first }
+    record { next = s5.mid; from = from; rest = s5.off; there = subst (λ (k : ℕ). TreeStands e ws ts k s5.mid from s5.off) m s5.first }
 
 -- the second of two
 second-of-two : (ws ts : List ℕ) (a t : Tree) (i j x y value : ℕ) → StandAll (cons a (cons t nil)) ws ts i j x y → value + nodes t ≡ j → Standing t ws ts value
@@ -164,7 +164,7 @@ second-of-two ws ts a t i j x y value s h =
     let n = (stands_lays ws ts t s.mid s2.mid s.off s2.off s2.first).next in
     let z = s2.others.next in
     let m : s.mid ≡ value = omega arith in
-    record { next = s2.mid; from = s.off; rest = s2.off; there = subst (λ (k : ℕ). stands t ws ts k s2.mid s.off s2.off) m s2.first }
+    record { next = s2.mid; from = s.off; rest = s2.off; there = subst (λ (k : ℕ). TreeStands t ws ts k s2.mid s.off s2.off) m s2.first }
 
 module _ (l : Lent) (ws ts : List ℕ) (rules : lawful (tables_of l) ≡ true) where
   -- what a part that was read stands on

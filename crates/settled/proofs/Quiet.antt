@@ -12,7 +12,7 @@ use lib.Dec.{eqb}
 use Rattle.ground.proofs.Tests.{by_order, by_test}
 use Rattle.refusals.specs.declared.Refusal.TheVariants.{UnmatchedFieldType, UnmatchedRecordType}
 use Rattle.arena.specs.Node.{node_at}
-use Rattle.arena.specs.Stands.{stands, StandAll}
+use Rattle.arena.specs.Stands.{TreeStands, StandAll}
 use Rattle.arena.specs.Text.{same_text}
 use Rattle.arena.specs.Tree.{Tree, Trees, bit_vec as bits, numeral, string as quoted, symbol, app, nil, cons}
 use Rattle.arena.proofs.Arenas.{one-tree}
@@ -83,14 +83,14 @@ module _ (T : Tables) (ms ws ts : List ℕ) where
       let z : ◌≡◌ {A = ℕ} 0 1 = cc in
       absurd (omega arith)
 
-  atom : (t : Tree) (i j x y : ℕ) → stands t ws ts i j x y → j ≡ i + 1 → (kind_of t ≡ 5 → ⊥) → Settled T ms ws ts i j
+  atom : (t : Tree) (i j x y : ℕ) → TreeStands t ws ts i j x y → j ≡ i + 1 → (kind_of t ≡ 5 → ⊥) → Settled T ms ws ts i j
   atom t i j x y s n h k f g vs r b e =
       let q : k ≡ i = omega arith in
       let a = kinds ws ts i t (record { next = j; from = x; rest = y; there = s }) in
       absurd (h (sym a ∙ subst (λ (m : ℕ). kind (node_at ws m) ≡ 5) q (kinds ws ts k (app vs) r)))
 
   mutual
-    quiet-stands : (t : Tree) → Quiet t → (i j x y : ℕ) → stands t ws ts i j x y → Settled T ms ws ts i j
+    quiet-stands : (t : Tree) → Quiet t → (i j x y : ℕ) → TreeStands t ws ts i j x y → Settled T ms ws ts i j
     quiet-stands (bits w n) q i j x y s = atom (bits w n) i j x y s s.next (λ z. absurd (omega arith))
     quiet-stands (numeral n) q i j x y s = atom (numeral n) i j x y s s.next (λ z. absurd (omega arith))
     quiet-stands (quoted t) q i j x y s = atom (quoted t) i j x y s s.next (λ z. absurd (omega arith))

@@ -8,7 +8,7 @@ use native.Mathlib.Omega.{arith}
 use denote.Enum.Declared.{tag_of}
 use Rattle.ground.specs.Bytes.{bytes}
 use Rattle.arena.specs.Node.{after_at}
-use Rattle.arena.specs.Stands.{stands}
+use Rattle.arena.specs.Stands.{TreeStands}
 use Rattle.arena.specs.Tree.{Tree, Trees, bit_vec, numeral, string, symbol, app}
 use Rattle.arena.proofs.Layouts.{stands_after, stands-longer}
 use Rattle.shapes.specs.declared.look.Parts.{Parts}
@@ -68,9 +68,9 @@ module _ (ws ts : List ℕ) (f : List ℕ) (c v w : Tree) (i : ℕ) (s : Standin
       let k : all.mid ≡ i + 1 + 1 = all.first.next in
       let e : s.next ≡ three.mid = three.others.next in
       record {
-        at_first = record { next = left; from = all.off; rest = one.off; there = subst (λ (n : ℕ). stands c ws ts first n all.off one.off) l (subst (λ (n : ℕ). stands c ws ts n one.mid all.off one.off) h one.first) };
-        at_left = record { next = right; from = one.off; rest = two.off; there = subst (λ (n : ℕ). stands v ws ts left n one.off two.off) m (subst (λ (n : ℕ). stands v ws ts n two.mid one.off two.off) l two.first) };
-        at_right = record { next = three.mid; from = two.off; rest = three.off; there = subst (λ (n : ℕ). stands w ws ts n three.mid two.off three.off) m three.first };
+        at_first = record { next = left; from = all.off; rest = one.off; there = subst (λ (n : ℕ). TreeStands c ws ts first n all.off one.off) l (subst (λ (n : ℕ). TreeStands c ws ts n one.mid all.off one.off) h one.first) };
+        at_left = record { next = right; from = one.off; rest = two.off; there = subst (λ (n : ℕ). TreeStands v ws ts left n one.off two.off) m (subst (λ (n : ℕ). TreeStands v ws ts n two.mid one.off two.off) l two.first) };
+        at_right = record { next = three.mid; from = two.off; rest = three.off; there = subst (λ (n : ℕ). TreeStands w ws ts n three.mid two.off three.off) m three.first };
         head = omega arith;
         to-left = refl;
         to-right = refl;
@@ -130,7 +130,7 @@ module _ (ms ws ts : List ℕ) (i : ℕ) (p : Parts) (parts : PartsAt ws i p) wh
 
       moved : (t u : Tree) (k j end : ℕ) (s : Standing t ws ts k) → t ≡ u → k ≡ j → s.next ≤ end → (r : Standing u ws ts j) × (r.next ≤ end)
       moved t u k j end s e f h =
-          (record { next = s.next; from = s.from; rest = s.rest; there = subst (λ (x : Tree). stands x ws ts j s.next s.from s.rest) e (subst (λ (n : ℕ). stands t ws ts n s.next s.from s.rest) f s.there) }, h)
+          (record { next = s.next; from = s.from; rest = s.rest; there = subst (λ (x : Tree). TreeStands x ws ts j s.next s.from s.rest) e (subst (λ (n : ℕ). TreeStands t ws ts n s.next s.from s.rest) f s.there) }, h)
 
       at-branch : (b : Bool) → b ≡ marked ms i → (j : ℕ) → j ≡ cond b left right → j ≡ cond (marked ms i) (argument ws i 1) (argument ws i 2)
       at-branch b m j e =

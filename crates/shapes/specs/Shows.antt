@@ -2,7 +2,7 @@
 use Rattle.std.specs.Prelude.{◌≡◌, true, false, List, ℕ, suc, ◌+◌, ◌*◌, ◌^◌, ◌≤◌, ◌<◌, ◌%◌, ◌/◌, eqb, length}
 use Rattle.arena.specs.Layout.{stride}
 use Rattle.arena.specs.Node.{after_at}
-use Rattle.arena.specs.Stands.{stands, StandAll}
+use Rattle.arena.specs.Stands.{TreeStands, StandAll}
 use Rattle.arena.specs.Text.{text_at}
 use Rattle.arena.specs.Tree.{Tree, Trees, bit_vec, numeral, symbol, app, nil, cons, count}
 use Rattle.tables.specs.Sort.{Ext, decimal, datetime, duration}
@@ -19,7 +19,7 @@ pub record Standing (t : Tree) (ws ts : List ℕ) (i : ℕ) : Type 0 where
   pub next : ℕ
   pub from : ℕ
   pub rest : ℕ
-  pub there : stands t ws ts i next from rest
+  pub there : TreeStands t ws ts i next from rest
 
 -- the trees stand one after the other from the node on, so many of them
 pub record StandingAll (us : Trees) (ws ts : List ℕ) (i many : ℕ) : Type 0 where
