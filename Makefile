@@ -10,19 +10,21 @@ tidy:
 	python3 tools/tidy.py
 	python3 tools/deps.py --write
 
-# The listing of a solver's model REPLY over the tables TABLES; with PROGRAM=valuelist, of its reply to get-value. Proves the program
-# first, where it is not proved yet. Needs the toolchain.
+# The listing of a solver's model REPLY over the tables TABLES; with PROGRAM=valuelist, of its reply to get-value. Proves and builds the
+# program first, where that is not done yet: `rt run` does both, and runs it once on nothing. Needs the toolchain.
 PROGRAM ?= modellist
 list:
 	@mkdir -p target/list && cp "$(TABLES)" target/list/tables.txt
-	@rt check $(PROGRAM) > target/list/check.log 2>&1 || { cat target/list/check.log; exit 1; }
+	@(cd crates/$(PROGRAM) && rt run) < /dev/null > target/list/run.log 2>&1 || { cat target/list/run.log; exit 1; }
 	@reply="$(abspath $(REPLY))" && cd target/list && sh ../../tools/run.sh $(PROGRAM) < "$$reply"
 
-# What C and Rust link, target/staticlib/libstazzumpi.a, for this machine. Needs the toolchain, which compiles for x86-64 alone;
-# elsewhere tools/native.sh has the same module compiled for the machine. NATIVE=1 goes that way on x86-64 too.
+# What C and Rust link, target/staticlib/libstazzumpi.a, for this machine. Needs the toolchain, which runs on x86-64 alone; elsewhere
+# tools/native.sh says how to come by the archive. NATIVE=1 goes by tools/native.sh on x86-64 too.
 library:
 ifeq ($(shell uname -m)$(NATIVE),x86_64)
-	rt staticlib stazzumpi
+	cd crates/stazzumpi && rt lib
+	@mkdir -p target/staticlib
+	cp crates/stazzumpi/out/libstazzumpi.a target/staticlib/libstazzumpi.a
 else
 	sh tools/native.sh
 endif

@@ -18,7 +18,7 @@ LINE = re.compile(r"^([a-z0-9_]+)(?: staticlib)?:([^#\n]*)(#.*)?$")
 def named(crate, known):
     found, own = set(BY_TYPE.get(crate, [])), {crate}
     for path in glob.glob(f"crates/{crate}/**/*", recursive=True):
-        if path.endswith((".rt", ".antt")):
+        if path.endswith((".rt", ".antt")) and "/out/" not in path:
             with open(path, encoding="utf8") as f:
                 text = f.read()
             found |= set(re.findall(r"Rattle\.([a-z0-9_]+)\.", text))

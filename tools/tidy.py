@@ -1,70 +1,63 @@
 #!/usr/bin/env python3
-"""tidy.py [--check] [FILE..]: shortens the functions' proofs (crates/*/proofs/**/Proof.antt where no file is named); they stay proofs.
+"""tidy.py [--check] [FILE..]: shortens the functions' proofs (crates/*/proofs/FUNCTION/Answers.antt and Invariants.antt where no file is
+named); they stay proofs.
 
-1. A need that `search needs` answers stands inline among the arguments of tie.spec, without signature.
-2. A path `c .before .. .args` that one answer uses twice or more is bound by a let at the answer's head.
-3. Comments that point to a line of the code go: the next edit of the code makes them wrong.
+1. An answer whose whole body is `search rules`, with no `unfolding` line, goes, for the check tries that by itself; not one that another
+   answer of its file names. A file that is left with imports alone goes too. Imports that nothing uses any more are `rt tidy`'s.
+2. Comments that point to a line of the code, `-- src/FILE:LINE:COL`, go: the next edit of the code makes them wrong.
 
 With --check nothing is written, and the exit code is 1 where a file would change."""
-import collections
 import glob
+import os
 import re
 import sys
 
-NEED = re.compile(r"^(?P<n>[a-z0-9-]+) : tie\.Need-[^\n]*\n(?P=n)(?P<v>(?: c| κs)+) = search needs\n\n", re.M)
-PLACE = re.compile(r"^-- src/\S+:\d+:\d+\n", re.M)
-ANSWER = re.compile(r"^([a-z0-9-]+ (?:t )?c(?: κs)?) = (.*)$")
-PATH = re.compile(r"(?<![\w.])(c(?: \.before)+ \.args)(?![\w-])")
+# the goal's name twice, and no line that goes on with the body
+ANSWER = re.compile(r"^pub (?P<n>\S+) : goal\.(?P=n)[ \t]*\n(?P=n)(?: [^\s=]+)* =\s+search rules[ \t]*(?:\n(?![ \t]+\S)\n*|\Z)", re.M)
+PLACE = re.compile(r"^[ \t]*-- src/[^\s:]+:\d+:\d+(?:[^\d\n].*)?(?:\n|\Z)", re.M)
+# what a file without an answer has
+EMPTY = re.compile(r"(?:use [^\n]*(?:\n|\Z)|[ \t]*\n)*")
 
 
-def inline(text):
-    """The needs that search answers, moved into the last tie.spec."""
-    found = [(m.group("n"), m.group("v").split()) for m in NEED.finditer(text)]
-    short = NEED.sub("", text)
-    if not found or "tie.spec" not in short:
-        return text
-    head, tail = short.rsplit("tie.spec", 1)
-    for name, binders in found:
-        answer = "(λ " + " ".join(binders) + ". search needs)"
-        tail = re.sub(r"(\s+)" + re.escape(name) + r"(?=[\s)])", lambda m: m.group(1) + answer, tail, count=1)
-    return head + "tie.spec" + tail
-
-
-def bind(line):
-    """One answer, its repeated paths bound."""
-    m = ANSWER.match(line)
-    if not m or m.group(2) == "search needs":
-        return line
-    body, lets = m.group(2), ""
-    for path, times in collections.Counter(PATH.findall(body)).most_common():
-        if times < 2 or len(path) < 24:
-            continue
-        taken = lambda name: re.search(r"(?<![\w.])" + name + r"(?![\w-])", lets + body)
-        name = next(n for n in ["a", "args"] + ["args%d" % k for k in range(1, 99)] if not taken(n))
-        body = re.sub(re.escape(path) + r"(?![\w-])", name, body)
-        lets += "let %s = %s in " % (name, path)
-    return m.group(1) + " = " + lets + body
+def without_answers(text):
+    """The text without the answers that the check finds by itself, but for those that are named elsewhere in it."""
+    at = 0
+    while m := ANSWER.search(text, at):
+        rest = text[:m.start()] + text[m.end():]
+        if re.search(r"(?<![\w.'-])" + re.escape(m["n"]) + r"(?![\w'-])", rest):
+            at = m.end()
+        else:
+            text, at = rest, m.start()
+    return text
 
 
 def tidy(text):
-    return "\n".join(bind(x) for x in inline(PLACE.sub("", text)).split("\n"))
+    """The text by both rules, or none where no answer is left of it."""
+    new = without_answers(PLACE.sub("", text))
+    if new == text:
+        return text
+    return None if EMPTY.fullmatch(new) else new.rstrip("\n") + "\n"
 
 
 def main():
     check = "--check" in sys.argv[1:]
-    files = [a for a in sys.argv[1:] if a != "--check"] or sorted(glob.glob("crates/*/proofs/**/Proof.antt", recursive=True))
+    places = [f"crates/*/proofs/*/**/{name}.antt" for name in ("Answers", "Invariants")]
+    files = [a for a in sys.argv[1:] if a != "--check"] or sorted(f for place in places for f in glob.glob(place, recursive=True))
     changed = 0
     for path in files:
         with open(path, encoding="utf8") as f:
             old = f.read()
         new = tidy(old)
-        if new != old:
-            changed += 1
-            if check:
-                print("not tidy:", path)
-            else:
-                with open(path, "w", encoding="utf8") as f:
-                    f.write(new)
+        if new == old:
+            continue
+        changed += 1
+        if check:
+            print("not tidy:", path)
+        elif new is None:
+            os.remove(path)
+        else:
+            with open(path, "w", encoding="utf8") as f:
+                f.write(new)
     print(f"{len(files)} files, {changed} {'not tidy' if check else 'changed'}")
     sys.exit(1 if check and changed else 0)
 

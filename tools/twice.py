@@ -2,7 +2,8 @@
 """twice.py [FOLDER]: what the definitions and laws of a folder (crates, where none is named) say twice, and laws that nothing cites.
 
 1. Statements of two laws that are the same up to the names of what they bind.
-2. Runs of six or more lines that are the same up to names and numbers, in laws and in code; printed proofs are passed over.
+2. Runs of six or more lines that are the same up to names and numbers, in laws and in code; the functions' proofs (Answers.antt and
+   Invariants.antt in a folder below proofs/) are passed over.
 3. `pub` laws that no other line of any file names; docs/*.md count as citing.
 
 A line printed is a place to look, not a fault."""
@@ -13,10 +14,12 @@ import sys
 
 LEAST = 6
 NAME = re.compile(r"[A-Za-zα-ωΑ-Ω_«][\w'·₀-₉′»-]*")
-PASSED = re.compile(r"^\s*(--|//|use |ghost use |pub mod |mod |[{})\]]|$)|tie\.|lts\.|search needs|statement|^\s*[\w'-]+,?\s*$")
+PASSED = re.compile(r"^\s*(--|//|use |ghost use |pub mod |mod |[{})\]]|$)|goal\.|search rules|^\s*[\w'-]+,?\s*$")
 LAW = re.compile(r"^(?:  )?pub ([\w'′·₀-₉-]+)((?: \{[^}]*\})*) :(.*(?:\n(?:  )?    .*)*)", re.M)
 
 
+# what a function's folder has, which the toolchain starts
+PROOF = re.compile(r"/proofs/.+/(Answers|Invariants)\.antt$")
 RECORD = re.compile(r"^( *)(?:pub )?(?:record|data) [^\n]* where\n(?:\1  [^\n]*\n)*", re.M)
 
 
@@ -33,10 +36,11 @@ def renamed(statement):
 
 def main():
     folder = sys.argv[1] if sys.argv[1:] else "crates"
-    files = {p: open(p, encoding="utf8").read() for p in sorted(glob.glob(folder + "/**/*.antt", recursive=True) + glob.glob(folder + "/**/*.rt", recursive=True))}
+    paths = sorted(p for end in ("antt", "rt") for p in glob.glob(f"{folder}/**/*.{end}", recursive=True) if "/out/" not in p)
+    files = {p: open(p, encoding="utf8").read() for p in paths}
     said, laws = collections.defaultdict(list), []
     for path, text in files.items():
-        if "/proofs/" in path and not path.endswith("Proof.antt"):
+        if "/proofs/" in path and not PROOF.search(path):
             for m in LAW.finditer(RECORD.sub("", text)):
                 laws.append((m[1], path))
                 said[renamed(m[2] + m[3])].append(f"{path} {m[1]}")
@@ -45,7 +49,7 @@ def main():
             print("one statement:", "; ".join(where))
     runs = collections.defaultdict(list)
     for path, text in files.items():
-        lines = [(k + 1, shape(line)) for k, line in enumerate(text.split("\n")) if not PASSED.search(line)] if not path.endswith("Proof.antt") else []
+        lines = [(k + 1, shape(line)) for k, line in enumerate(text.split("\n")) if not PASSED.search(line)] if not PROOF.search(path) else []
         for i in range(len(lines) - LEAST + 1):
             key = "\n".join(s for _, s in lines[i:i + LEAST])
             if len(key) > 40 * LEAST:

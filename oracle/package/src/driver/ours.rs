@@ -1,4 +1,4 @@
-//! Our library beside the crate: what `rt staticlib stazzumpi` writes, called as C calls it.
+//! Our library beside the crate: what `rt lib` writes for crates/stazzumpi, called as C calls it.
 
 // The bench calls fewer of them than the comparison.
 #![allow(dead_code)]
