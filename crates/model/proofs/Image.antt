@@ -21,7 +21,7 @@ use Rattle.commands.specs.declared.form.Form.{Form}
 use Rattle.commands.specs.Command.{variable, command}
 use Rattle.commands.specs.Pair.{pair_of}
 use Rattle.commands.proofs.Shapes.{define}
-use Rattle.model.specs.Model.{Definition, is_variable, value_as, variable_value, on_row, read_command, read_pair, read_part, read_parts, read_reply, read_model, read_values}
+use Rattle.model.specs.Model.{Definition, is_variable, value_as, variable_value, on_row, read_command, read_pair, read_parts, read_reply, read_model, read_values}
 use Rattle.model.specs.Image.{Declares, Image, no_more, one_more}
 
 module _ (T : Tables) where

@@ -1,6 +1,6 @@
 -- The text form of tables ends in a line feed, where it has a byte at all: a last line without one spells no tables.
 -- Assumes nothing.
-use mathlib.Core.Path.{◌≡◌, refl, sym, ap, ◌∙◌}
+use mathlib.Core.Path.{◌≡◌, refl, ap, ◌∙◌}
 use mathlib.Core.List.{List, [], ◌∷◌, ◌++◌}
 use Prim.Native.Nat.{ℕ}
 use Rattle.ground.specs.Bytes.{bytes}

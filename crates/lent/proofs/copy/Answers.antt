@@ -1,10 +1,6 @@
 use Rattle.lent.proofs.Copies.{copying-start, copying-within, copying-step, copying-end}
 use Rattle.lent.proofs.copy.Goals as goal
 
--- LOST same-length
--- same_length : tie.Need-same-length invariant-loop decreases-loop
--- same_length c = c.before.loop.invariant.long
-
 pub loop-at-init : goal.loop-at-init
 loop-at-init c = copying-start _ _ c.requires
 
