@@ -2,14 +2,15 @@
 -- Assumes nothing.
 use mathlib.Core.Path.{◌≡◌, refl, sym, ◌∙◌}
 use mathlib.Core.List.{List, []}
+use mathlib.Core.Option.{none, some}
 use Prim.Native.Nat.{ℕ}
 use native.Mathlib.Omega.{arith}
 use Rattle.ground.proofs.Tests.{one-result}
 use Rattle.refusals.specs.declared.Refusal.TheVariants.{UnknownLiteral}
 use Rattle.arena.specs.Tree.{Tree}
-use Rattle.tables.specs.Layout.{Lent}
+use Rattle.tables.specs.Layout.{Lent, tables_of}
 use Rattle.shapes.specs.Shows.{Standing}
-use Rattle.sorts.specs.Result.{ok, refused}
+use Rattle.sorts.specs.Result.{Result, ok, refused}
 use Rattle.literals.specs.declared.answer.Literal.{Literal}
 use Rattle.literals.specs.declared.form.Expected.{Expected}
 use Rattle.literals.specs.declared.form.Form.{Form}

@@ -1,6 +1,6 @@
 -- Document 01, "The listing", program `modellist`, and document 02, R-1, `valuelist`: what a tables' text and a reply come to, in the rooms that
 -- are lent for the tree and the listing: 9 first, then 25, the reader's, the walk's.
-use Rattle.std.specs.Prelude.{◌≡◌, Bool, true, false, ◌&&◌, List, ℕ, leb, length, replicate}
+use Rattle.std.specs.Prelude.{◌≡◌, Bool, true, false, ◌&&◌, List, ℕ, ◌*◌, leb, length, replicate}
 use Rattle.refusals.specs.declared.Refusal.{Refusal}
 use Rattle.refusals.specs.declared.Refusal.TheVariants.{InputTooLong, BadTable}
 use Rattle.lent.specs.declared.Written.{Written}
