@@ -74,7 +74,7 @@ fn list_parts(
     scratch: &mut [u8],
     out: &mut [u8],
 ) -> Written
-    ensures { Parted form (record { sorts = sorts.entry.now; fields = fields.now; variables = variables.now; functions = functions.now; members = members.now; names = names.now }) nodes.now text.now count last.old out.old result out.new }
+    ensures { Parted form (record { sorts = sorts.now; fields = fields.now; variables = variables.now; functions = functions.now; members = members.now; names = names.now }) nodes.now text.now count last.old out.old result out.new }
 {
     let walked = walk_parts(
         form, sorts, fields, variables, functions, members, names, nodes, text, 1, count, last,
@@ -102,7 +102,7 @@ fn list_checked(
     scratch: &mut [u8],
     out: &mut [u8],
 ) -> Written
-    ensures { Replied form (record { sorts = sorts.entry.now; fields = fields.now; variables = variables.now; functions = functions.now; members = members.now; names = names.now }) nodes.now text.now last.old out.old result out.new }
+    ensures { Replied form (record { sorts = sorts.now; fields = fields.now; variables = variables.now; functions = functions.now; members = members.now; names = names.now }) nodes.now text.now last.old out.old result out.new }
 {
     let list = list_at(nodes, 0);
     match list {
@@ -129,7 +129,7 @@ fn list_stored(
     scratch: &mut [u8],
     out: &mut [u8],
 ) -> Written
-    ensures { Stored form (record { sorts = sorts.entry.now; fields = fields.now; variables = variables.now; functions = functions.now; members = members.now; names = names.now }) nodes.now text.now last.old out.old result out.new }
+    ensures { Stored form (record { sorts = sorts.now; fields = fields.now; variables = variables.now; functions = functions.now; members = members.now; names = names.now }) nodes.now text.now last.old out.old result out.new }
 {
     let stored = check_arena(nodes, text);
     match stored {
@@ -154,7 +154,7 @@ pub fn list_form(
     text: &[u8],
     out: &mut [u8],
 ) -> Written
-    ensures { Lists form (record { sorts = sorts.entry.now; fields = fields.now; variables = variables.now; functions = functions.now; members = members.now; names = names.now }) nodes.now text.now out.old result out.new }
+    ensures { Lists form (record { sorts = sorts.now; fields = fields.now; variables = variables.now; functions = functions.now; members = members.now; names = names.now }) nodes.now text.now out.old result out.new }
 {
     let mut last: [usize; WORDS] = [0; WORDS];
     let mut scratch: [u8; 65536] = [0; 65536];
@@ -190,7 +190,7 @@ pub fn list_model(
     text: &[u8],
     out: &mut [u8],
 ) -> Written
-    ensures { Lists Forms.Model (record { sorts = sorts.entry.now; fields = fields.now; variables = variables.now; functions = functions.now; members = members.now; names = names.now }) nodes.now text.now out.old result out.new }
+    ensures { Lists Forms.Model (record { sorts = sorts.now; fields = fields.now; variables = variables.now; functions = functions.now; members = members.now; names = names.now }) nodes.now text.now out.old result out.new }
 {
     list_form(
         Form::Model,
@@ -218,7 +218,7 @@ pub fn list_values(
     text: &[u8],
     out: &mut [u8],
 ) -> Written
-    ensures { Lists Forms.Values (record { sorts = sorts.entry.now; fields = fields.now; variables = variables.now; functions = functions.now; members = members.now; names = names.now }) nodes.now text.now out.old result out.new }
+    ensures { Lists Forms.Values (record { sorts = sorts.now; fields = fields.now; variables = variables.now; functions = functions.now; members = members.now; names = names.now }) nodes.now text.now out.old result out.new }
 {
     list_form(
         Form::Values,

@@ -42,7 +42,7 @@ fn list_text(
     stack: &mut [u64],
     out: &mut [u8],
 ) -> Written
-    ensures { ReadsOn form (record { sorts = sorts.entry.now; fields = fields.now; variables = variables.now; functions = functions.now; members = members.now; names = names.now }) reply.now (record { nodes = nodes.entry.now; text = text.old; stack = stack.old }) out.old result (record { nodes = nodes.exit.now; text = text.new; stack = stack.new }) out.new }
+    ensures { ReadsOn form (record { sorts = sorts.now; fields = fields.now; variables = variables.now; functions = functions.now; members = members.now; names = names.now }) reply.now (record { nodes = nodes.old; text = text.old; stack = stack.old }) out.old result (record { nodes = nodes.new; text = text.new; stack = stack.new }) out.new }
 {
     let reading = parse_sexpr(reply, nodes, text, stack);
     match reading {
@@ -67,7 +67,7 @@ pub fn list_in(
     stack: &mut [u64],
     out: &mut [u8],
 ) -> Written
-    ensures { Replies form tables.now reply.now (record { nodes = nodes.entry.now; text = text.old; stack = stack.old }) out.old result (record { nodes = nodes.exit.now; text = text.new; stack = stack.new }) out.new }
+    ensures { Replies form tables.now reply.now (record { nodes = nodes.old; text = text.old; stack = stack.old }) out.old result (record { nodes = nodes.new; text = text.new; stack = stack.new }) out.new }
 {
     if LIMIT < tables.len() {
         return Written::Refused(Refusal::InputTooLong);

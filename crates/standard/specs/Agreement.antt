@@ -19,7 +19,7 @@ Kept (simple s) = Unit {0}
 Kept (barred s) = Unit {0}
 Kept (keyword s) = Unit {0}
 
--- what `standard-read` proves of every S-expression and all bytes that are it
+-- what `standard_read` proves of every S-expression and all bytes that are it
 pub record ReadAsImage (x : Expression) (s : List ℕ) (w : Written x s) : Type 0 where
   pub parsed : Within x → no_lone_return w ≡ true → parse s ≡ tree (image x)
   -- in lent nodes, text and stack: written there, or refused for want of room

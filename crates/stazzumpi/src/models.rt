@@ -19,7 +19,7 @@ pub extern "C" fn stazzumpi_list_model(
     out: &mut [u8],
     told: &mut [u64],
 ) -> u64
-    ensures { ListsOut Form.Model (record { sorts = sorts.entry.now; fields = fields.now; variables = variables.now; functions = functions.now; members = members.now; names = names.now }) nodes.now text.now out.old told.old result told.new out.new }
+    ensures { ListsOut Form.Model (record { sorts = sorts.now; fields = fields.now; variables = variables.now; functions = functions.now; members = members.now; names = names.now }) nodes.now text.now out.old told.old result told.new out.new }
 {
     if told.len() < 1 {
         return code(Refusal::OutRoom(1));
@@ -44,7 +44,7 @@ pub extern "C" fn stazzumpi_list_values(
     out: &mut [u8],
     told: &mut [u64],
 ) -> u64
-    ensures { ListsOut Form.Values (record { sorts = sorts.entry.now; fields = fields.now; variables = variables.now; functions = functions.now; members = members.now; names = names.now }) nodes.now text.now out.old told.old result told.new out.new }
+    ensures { ListsOut Form.Values (record { sorts = sorts.now; fields = fields.now; variables = variables.now; functions = functions.now; members = members.now; names = names.now }) nodes.now text.now out.old told.old result told.new out.new }
 {
     if told.len() < 1 {
         return code(Refusal::OutRoom(1));

@@ -19,7 +19,7 @@ pub extern "C" fn stazzumpi_check_tables(
     members: &[u64],
     names: &[u8],
 ) -> u64
-    ensures { result ≡ word_of (passed (checked (record { sorts = sorts.entry.now; fields = fields.now; variables = variables.now; functions = functions.now; members = members.now; names = names.now }))) }
+    ensures { result ≡ word_of (passed (checked (record { sorts = sorts.now; fields = fields.now; variables = variables.now; functions = functions.now; members = members.now; names = names.now }))) }
 {
     let answer = tables::check_tables(sorts, fields, variables, functions, members, names);
     match answer {
@@ -39,7 +39,7 @@ pub extern "C" fn stazzumpi_read_tables(
     members: &mut [u64],
     told: &mut [u64],
 ) -> u64
-    ensures { ReadsOut text.now (record { sorts = sorts.entry.now; fields = fields.old; variables = variables.old; functions = functions.old; members = members.old }) told.old result told.new (record { sorts = sorts.exit.now; fields = fields.new; variables = variables.new; functions = functions.new; members = members.new }) }
+    ensures { ReadsOut text.now (record { sorts = sorts.old; fields = fields.old; variables = variables.old; functions = functions.old; members = members.old }) told.old result told.new (record { sorts = sorts.new; fields = fields.new; variables = variables.new; functions = functions.new; members = members.new }) }
 {
     if told.len() < 5 {
         return code(Refusal::OutRoom(5));

@@ -101,7 +101,7 @@ pub fn check_tables(
     members: &[u64],
     names: &[u8],
 ) -> Checked
-    ensures { result ≡ checked (record { sorts = sorts.entry.now; fields = fields.now; variables = variables.now; functions = functions.now; members = members.now; names = names.now }) }
+    ensures { result ≡ checked (record { sorts = sorts.now; fields = fields.now; variables = variables.now; functions = functions.now; members = members.now; names = names.now }) }
 {
     let sort_rows = count(sorts);
     if !check_sorts(sorts, fields, names) {

@@ -43,7 +43,7 @@ pub fn read_tables(
     functions: &mut [u64],
     members: &mut [u64],
 ) -> TablesRead
-    ensures { Reads text.now (record { sorts = sorts.entry.now; fields = fields.old; variables = variables.old; functions = functions.old; members = members.old }) result (record { sorts = sorts.exit.now; fields = fields.new; variables = variables.new; functions = functions.new; members = members.new }) }
+    ensures { Reads text.now (record { sorts = sorts.old; fields = fields.old; variables = variables.old; functions = functions.old; members = members.old }) result (record { sorts = sorts.new; fields = fields.new; variables = variables.new; functions = functions.new; members = members.new }) }
 {
     if TEXT_LIMIT < text.len() {
         return TablesRead::Refused(Refusal::InputTooLong);

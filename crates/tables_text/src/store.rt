@@ -78,8 +78,8 @@ pub fn store(
     functions: &mut [u64],
     members: &mut [u64],
 ) -> TablesRead
-    requires { Storable answer (record { sorts = a.now; fields = b.now; variables = c.now; functions = d.now; members = e.now }) (record { sorts = sorts.now; fields = fields.old; variables = variables.old; functions = functions.old; members = members.old }) }
-    ensures { Stored answer (record { sorts = a.now; fields = b.now; variables = c.now; functions = d.now; members = e.now }) (record { sorts = sorts.entry.now; fields = fields.old; variables = variables.old; functions = functions.old; members = members.old }) result (record { sorts = sorts.exit.now; fields = fields.new; variables = variables.new; functions = functions.new; members = members.new }) }
+    requires { Storable answer (record { sorts = a.now; fields = b.now; variables = c.now; functions = d.now; members = e.now }) (record { sorts = sorts.old; fields = fields.old; variables = variables.old; functions = functions.old; members = members.old }) }
+    ensures { Stored answer (record { sorts = a.now; fields = b.now; variables = c.now; functions = d.now; members = e.now }) (record { sorts = sorts.old; fields = fields.old; variables = variables.old; functions = functions.old; members = members.old }) result (record { sorts = sorts.new; fields = fields.new; variables = variables.new; functions = functions.new; members = members.new }) }
 {
     match answer {
         TablesRead::Refused(why) => TablesRead::Refused(why),

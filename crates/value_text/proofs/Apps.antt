@@ -102,11 +102,11 @@ record_fielded T ws ts below first many row us vs s h =
 
 module _ (sorts names ws ts : List ℕ) where
   -- (NAME ..), where NAME is the text there
-  module _ (offset size first many : ℕ) (a b : List ℕ) (slice : List ℕ) (is : slice ≡ text_at ts offset size) (Made-as : Made) (of : MadeOf sorts names slice Made-as) where
-    row_is : (l : Lent) → l.sorts ≡ sorts → l.names ≡ names → (f : List ℕ) → TextReads f ts offset size → (row : ℕ) → named_sort (tables_of l) f ≡ some row → RowIs (tables_of l) row Made-as
+  module _ (offset size first many : ℕ) (a b : List ℕ) (slice : List ℕ) (is : slice ≡ text_at ts offset size) (made_as : Made) (of : MadeOf sorts names slice made_as) where
+    row_is : (l : Lent) → l.sorts ≡ sorts → l.names ≡ names → (f : List ℕ) → TextReads f ts offset size → (row : ℕ) → named_sort (tables_of l) f ≡ some row → RowIs (tables_of l) row made_as
     row_is l p n f q row h = of l p n row (ap (named_sort (tables_of l)) (is ∙ q.bytes) ∙ h)
 
-    pub made-entity : (row r : ℕ) → Made-as ≡ Made.Entity row → EntityText ws ts row first a b r → OpensMade sorts names ws ts offset size first many a b (Opened.Whole r)
+    pub made-entity : (row r : ℕ) → made_as ≡ Made.Entity row → EntityText ws ts row first a b r → OpensMade sorts names ws ts offset size first many a b (Opened.Whole r)
     unfolding text normal
     made-entity row r e d l p o f us q s below x k m own hs =
         let n = made-name (tables_of l) below x k f us m in
@@ -115,7 +115,7 @@ module _ (sorts names ws ts : List ℕ) where
         let st = first_of ws ts (quoted z.0) nil first many (subst (λ (y : Trees). StandingAll y ws ts first many) z.1 s) in
         writes_as (v_entity row z.0) k.value (ap (λ (y : ℕ). v_entity y z.0) w.0 ∙ z.2) a b r (writes-plain (v_entity row z.0) refl (d z.0 st))
 
-    pub made_record : (row place : ℕ) → Made-as ≡ Made.Record row → Offers a b 0 (bytes "r" ++ (decimal row ++ bytes "(")) place → OpensMade sorts names ws ts offset size first many a b (Opened.Fields first many place)
+    pub made_record : (row place : ℕ) → made_as ≡ Made.Record row → Offers a b 0 (bytes "r" ++ (decimal row ++ bytes "(")) place → OpensMade sorts names ws ts offset size first many a b (Opened.Fields first many place)
     made_record row place e d l p o f us q s below x k m own hs =
         let n = made-name (tables_of l) below x k f us m in
         let w = subst (λ (y : Made). RowIs (tables_of l) n.0 y) e (row_is l p o f q n.0 n.1) in
@@ -125,7 +125,7 @@ module _ (sorts names ws ts : List ℕ) where
         let v : v_record row z.0 ≡ k.value = ap (λ (y : ℕ). v_record y z.0) w.0 ∙ z.3 in
         (bytes "r" ++ (decimal row ++ bytes "("), d, subst (λ (y : Value). Fielded (tables_of l) ws ts below first many y (bytes "r" ++ (decimal row ++ bytes "("))) v (record_fielded (tables_of l) ws ts below first many row us z.0 s u))
 
-    pub made_nothing : (r : Opened) → Made-as ≡ Made.NoName → OpensMade sorts names ws ts offset size first many a b r
+    pub made_nothing : (r : Opened) → made_as ≡ Made.NoName → OpensMade sorts names ws ts offset size first many a b r
     made_nothing r e l p o f us q s below x k m own hs =
         let n = made-name (tables_of l) below x k f us m in
         absurd (subst (λ (y : Made). RowIs (tables_of l) n.0 y) e (row_is l p o f q n.0 n.1) f n.1)

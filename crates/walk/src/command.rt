@@ -55,7 +55,7 @@ fn note_variable(
     sort: usize,
     value: usize,
 ) -> Noted
-    ensures { NotesVariable (record { sorts = sorts.entry.now; fields = fields.now; variables = variables.now; functions = functions.now; members = members.now; names = names.now }) nodes.now text.now offset size sort value result }
+    ensures { NotesVariable (record { sorts = sorts.now; fields = fields.now; variables = variables.now; functions = functions.now; members = members.now; names = names.now }) nodes.now text.now offset size sort value result }
 {
     let found = variable_row(variables, names, text, offset, size);
     match found {
@@ -88,7 +88,7 @@ fn note_function(
     sort: usize,
     body: usize,
 ) -> Noted
-    ensures { NotesFunction (record { sorts = sorts.entry.now; fields = fields.now; variables = variables.now; functions = functions.now; members = members.now; names = names.now }) nodes.now text.now offset size arg_offset arg_length arg_sort sort body result }
+    ensures { NotesFunction (record { sorts = sorts.now; fields = fields.now; variables = variables.now; functions = functions.now; members = members.now; names = names.now }) nodes.now text.now offset size arg_offset arg_length arg_sort sort body result }
 {
     let range = clamp(offset, size, text.len());
     let start = range.start;
@@ -120,7 +120,7 @@ pub fn check_command(
     text: &[u8],
     at: usize,
 ) -> Noted
-    ensures { NotesAt Form.Model (record { sorts = sorts.entry.now; fields = fields.now; variables = variables.now; functions = functions.now; members = members.now; names = names.now }) nodes.now text.now at result }
+    ensures { NotesAt Form.Model (record { sorts = sorts.now; fields = fields.now; variables = variables.now; functions = functions.now; members = members.now; names = names.now }) nodes.now text.now at result }
 {
     let command = command_at(nodes, text, at);
     match command {

@@ -22,7 +22,7 @@ fn note_pair(
     size: u64,
     value: usize,
 ) -> Noted
-    ensures { NotesPair (record { sorts = sorts.entry.now; fields = fields.now; variables = variables.now; functions = functions.now; members = members.now; names = names.now }) nodes.now text.now offset size value result }
+    ensures { NotesPair (record { sorts = sorts.now; fields = fields.now; variables = variables.now; functions = functions.now; members = members.now; names = names.now }) nodes.now text.now offset size value result }
 {
     let found = variable_row(variables, names, text, offset, size);
     match found {
@@ -47,7 +47,7 @@ pub fn check_pair(
     text: &[u8],
     at: usize,
 ) -> Noted
-    ensures { NotesAt Form.Values (record { sorts = sorts.entry.now; fields = fields.now; variables = variables.now; functions = functions.now; members = members.now; names = names.now }) nodes.now text.now at result }
+    ensures { NotesAt Form.Values (record { sorts = sorts.now; fields = fields.now; variables = variables.now; functions = functions.now; members = members.now; names = names.now }) nodes.now text.now at result }
 {
     let pair = pair_at(nodes, at);
     match pair {

@@ -28,7 +28,7 @@ fn check_part(
     text: &[u8],
     at: usize,
 ) -> Noted
-    ensures { NotesAt form (record { sorts = sorts.entry.now; fields = fields.now; variables = variables.now; functions = functions.now; members = members.now; names = names.now }) nodes.now text.now at result }
+    ensures { NotesAt form (record { sorts = sorts.now; fields = fields.now; variables = variables.now; functions = functions.now; members = members.now; names = names.now }) nodes.now text.now at result }
 {
     match form {
         Form::Model => check_command(
@@ -55,7 +55,7 @@ pub fn walk_parts(
     count: u64,
     last: &mut [usize],
 ) -> Walked
-    ensures { Walks form (record { sorts = sorts.entry.now; fields = fields.now; variables = variables.now; functions = functions.now; members = members.now; names = names.now }) nodes.now text.now first count last.old last.new result }
+    ensures { Walks form (record { sorts = sorts.now; fields = fields.now; variables = variables.now; functions = functions.now; members = members.now; names = names.now }) nodes.now text.now first count last.old last.new result }
 {
     let mut at = first;
     let mut i: u64 = 0;
