@@ -72,7 +72,8 @@ pub fn list_in(
     if LIMIT < tables.len() {
         return Written::Refused(Refusal::InputTooLong);
     }
-    if LIMIT < reply.len() {
+    let long = reply.len();
+    if LIMIT < long {
         return Written::Refused(Refusal::InputTooLong);
     }
     let mut sorts = row_words();
