@@ -22,7 +22,7 @@ list:
 # tools/native.sh says how to come by the archive. NATIVE=1 goes by tools/native.sh on x86-64 too.
 library:
 ifeq ($(shell uname -m)$(NATIVE),x86_64)
-	cd crates/stazzumpi && rt lib
+	cd crates/stazzumpi && rt lib --cpu x86-64
 	@mkdir -p target/staticlib
 	cp crates/stazzumpi/out/libstazzumpi.a target/staticlib/libstazzumpi.a
 else

@@ -17,6 +17,11 @@ if [ "$own" != x86_64 ]; then
 fi
 cd "$(dirname "$0")/.."
 mkdir -p target/staticlib
-(cd crates/stazzumpi && rt lib --target "$machine-unknown-linux-gnu")
+# The plainest processor of each kind: a library does not look at which one it runs on.
+case $machine in
+x86_64) cpu=x86-64 ;;
+aarch64) cpu=generic ;;
+esac
+(cd crates/stazzumpi && rt lib --target "$machine-unknown-linux-gnu" --cpu "$cpu")
 cp crates/stazzumpi/out/libstazzumpi.a target/staticlib/libstazzumpi.a
 echo "native.sh: target/staticlib/libstazzumpi.a is for $machine"
