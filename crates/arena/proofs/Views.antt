@@ -8,7 +8,7 @@ use native.Mathlib.Omega.{arith}
 use lib.Dec.{eqb, ltb}
 use lib.ListN.{length, get_or, take, drop, length-take, length-drop}
 use lib.Seq.{get_or-take, get_or-drop}
-use borrow.Author.Tests.{lt-ltb, le-ltb, ltb-true, eq-eqb, ne_eqb, eqb-true}
+use borrow.Author.Tests.{lt-ltb, le-ltb, ltb-true, ne_eqb, eqb-true}
 use Rattle.ground.proofs.Tests.{by_test, by_cond}
 use Rattle.ground.proofs.Lists.{at_place}
 use Rattle.arena.specs.declared.node.Node.{Node}
@@ -53,16 +53,7 @@ read-laid (App children end) e = refl
 read-laid NoNode e = absurd (true≢false (sym e))
 
 -- the definitions by their cases
-pub unused-zero : (word : ℕ) (n : Node) → word ≡ 0 → n ≡ unused word n
-unused-zero word n e = rw (eq-eqb word 0 e)
-
-pub unused-other : (word : ℕ) (n : Node) → (word ≡ 0 → ⊥) → NoNode ≡ unused word n
-unused-other word n e = rw (ne_eqb word 0 e)
-
 module _ (kind one two three : ℕ) where
-  pub of-kind : (k : ℕ) → kind ≡ k → node_of k one two three ≡ node_of kind one two three
-  of-kind k e = ap (λ (x : ℕ). node_of x one two three) (sym e)
-
   pub no_kind : (kind ≡ 1 → ⊥) → (kind ≡ 2 → ⊥) → (kind ≡ 3 → ⊥) → (kind ≡ 4 → ⊥) → (kind ≡ 5 → ⊥) → NoNode ≡ node_of kind one two three
   no_kind a b c d e = rw (ne_eqb kind 1 a, ne_eqb kind 2 b, ne_eqb kind 3 c, ne_eqb kind 4 d, ne_eqb kind 5 e)
 

@@ -3,6 +3,7 @@ ghost use Rattle.std.specs.Prelude.{◌≡◌};
 ghost use Rattle.arena.specs.Node.{unused, node_of, node_at, after_at};
 
 // What a node's words say; a number is two words, the low one first.
+// Stays: `NoNode` is one of six ways to read words, which a match names beside the others, so it is no Option of the other five.
 #[derive(Clone, Copy)]
 pub enum Node {
     BitVec { width: u64, low: u64, high: u64 },
@@ -17,6 +18,7 @@ pub enum Node {
 pub const STRIDE: usize = 4;
 
 // The kinds, as word 0 has them.
+// Stays: numbers, since the lent words are what C reads too; `Node` is the view of them by name.
 pub const BIT_VEC: u64 = 1;
 
 pub const NUMERAL: u64 = 2;
@@ -43,10 +45,7 @@ pub const END: usize = SECOND;
 fn unused(word: u64, node: Node) -> Node
     ensures { result ≡ unused word node }
 {
-    if word == 0 {
-        return node;
-    }
-    Node::NoNode
+    if word == 0 { node } else { Node::NoNode }
 }
 
 // A kind, and words 1 to 3.
@@ -104,17 +103,9 @@ pub fn node_at(words: &[u64], at: usize) -> Node
 pub fn after(words: &[u64], at: usize) -> usize
     ensures { result ≡ after_at words.now at }
 {
-    let node = node_at(words, at);
-    match node {
-        Node::BitVec {
-            width: _,
-            low: _,
-            high: _,
-        } => at + 1,
-        Node::Numeral { low: _, high: _ } => at + 1,
-        Node::String { size: _, offset: _ } => at + 1,
-        Node::Symbol { size: _, offset: _ } => at + 1,
-        Node::App { children: _, end } => end as usize,
+    match node_at(words, at) {
+        Node::App { end, .. } => end as usize,
         Node::NoNode => at,
+        _ => at + 1,
     }
 }

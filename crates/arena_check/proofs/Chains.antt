@@ -3,7 +3,7 @@
 use mathlib.Core.Path.{◌≡◌, sym, subst}
 use mathlib.Core.Bool.{false}
 use mathlib.Core.List.{List}
-use Prim.Native.Nat.{ℕ, suc, ◌-◌, ◌≤◌, ◌<◌}
+use Prim.Native.Nat.{ℕ, suc, ◌≤◌, ◌<◌}
 use native.Mathlib.Omega.{arith}
 use lib.Dec.{eqb}
 use borrow.Author.Tests.{eqb-true, eqb-false}
@@ -16,15 +16,15 @@ pub record Left (count : ℕ) (ws : List ℕ) (from end left at : ℕ) : Type 0 
   pub whole : Chain left ws at end → Chain count ws from end
   pub rest : Chain count ws from end → Chain left ws at end
 
-pub left-start : (count : ℕ) (ws : List ℕ) (from end : ℕ) → Left count ws from end count from
-left-start count ws from end = record { whole = λ c. c; rest = λ c. c }
+pub left-start : (count : ℕ) (ws : List ℕ) (from end left : ℕ) → left ≡ count → Left count ws from end left from
+left-start count ws from end left e = record {
+  whole = λ c. subst (λ (n : ℕ). Chain n ws from end) e c;
+  rest = λ c. subst (λ (n : ℕ). Chain n ws from end) (sym e) c;
+}
 
 module _ {count : ℕ} {ws : List ℕ} {from end left at : ℕ} (h : Left count ws from end left at) where
-  module _ (nonzero : 0 < left) where
-    one_more : suc (left - 1) ≡ left
-    one_more = omega arith
-
-    link : Chain count ws from end → Link ws at end (Chain (left - 1) ws (after_at ws at) end)
+  module _ (less : ℕ) (one_more : suc less ≡ left) where
+    link : Chain count ws from end → Link ws at end (Chain less ws (after_at ws at) end)
     link c = subst (λ (n : ℕ). Chain n ws at end) (sym one_more) (h.rest c)
 
     pub left_back : (next : ℕ) → next ≡ after_at ws at → next ≤ at → Tells (Chain count ws from end) false
@@ -33,7 +33,7 @@ module _ {count : ℕ} {ws : List ℕ} {from end left at : ℕ} (h : Left count 
     pub left-past : (next : ℕ) → next ≡ after_at ws at → end < next → Tells (Chain count ws from end) false
     left-past next e g = tells-no (λ c. let l = (link c).within in omega arith)
 
-    pub left-next : (next : ℕ) → next ≡ after_at ws at → at < next → next ≤ end → Left count ws from end (left - 1) next
+    pub left-next : (next : ℕ) → next ≡ after_at ws at → at < next → next ≤ end → Left count ws from end less next
     left-next next e g k = record {
       whole = λ c.
           h.whole
@@ -41,9 +41,9 @@ module _ {count : ℕ} {ws : List ℕ} {from end left at : ℕ} (h : Left count 
           (record {
             onward = omega arith;
             within = omega arith;
-            others = subst (λ (n : ℕ). Chain (left - 1) ws n end) e c;
+            others = subst (λ (n : ℕ). Chain less ws n end) e c;
           }));
-      rest = λ c. subst (λ (n : ℕ). Chain (left - 1) ws n end) (sym e) (link c).others;
+      rest = λ c. subst (λ (n : ℕ). Chain less ws n end) (sym e) (link c).others;
     }
 
   module _ (finished : left ≡ 0) where

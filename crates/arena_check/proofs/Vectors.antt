@@ -1,7 +1,7 @@
 -- The number of a bit vector is sign-extended where it, or its complement to 2 ^ 128 - 1, stays below the sign bit.
 -- Assumes nothing.
 use mathlib.Core.Path.{◌≡◌, refl, sym, ap, ap₂, ◌∙◌, subst}
-use mathlib.Core.Bool.{true, false}
+use mathlib.Core.Bool.{Bool, true, false, not}
 use Prim.Native.Nat.{ℕ, ◌+◌, ◌-◌, ◌*◌, ◌%◌, ◌^◌, ◌≤◌, ◌<◌}
 use native.Mathlib.Nat.{le_of_lt, mod-mod, mod-lt, mod-eq_of_lt}
 use native.Mathlib.Omega.{arith}
@@ -151,3 +151,8 @@ module _ (w l h : ℕ) (nonzero : w ≡ 0 → ⊥) (most : w ≤ most_width) (lo
   pub vector-neither : leb (2 ^ (w - 1)) number ≡ true → leb (2 ^ (w - 1)) complement ≡ true → Tells (BitVector w number) false
   vector-neither e f =
       tells-no (λ b. sign-neither w (positive w nonzero) number complement (complements l h low high) (leb-true _ _ e) (leb-true _ _ f) b.sign)
+
+  -- where the number reaches the sign bit, its complement decides
+  pub vector-deep : leb (2 ^ (w - 1)) number ≡ true → (t : Bool) → t ≡ leb (2 ^ (w - 1)) complement → Tells (BitVector w number) (not t)
+  vector-deep e true q = vector-neither e (sym q)
+  vector-deep e false q = vector-negative (sym q)

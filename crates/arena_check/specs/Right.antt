@@ -1,13 +1,11 @@
 -- Document 01, "The arena", 27, node by node: what is asked of one node, given the text offset that the nodes before it leave.
-use Rattle.std.specs.Prelude.{◌≡◌, Bool, true, false, List, ℕ, zero, suc, ◌+◌, ◌*◌, ◌^◌, ◌≤◌, ◌<◌, length}
+use Rattle.std.specs.Prelude.{◌≡◌, Bool, true, false, List, ℕ, zero, suc, ◌+◌, ◌*◌, ◌^◌, ◌≤◌, ◌<◌, length, None, Option, Some}
 use Rattle.utf8.specs.Octets.{utf8}
 use Rattle.arena.specs.declared.node.Node.{Node}
 use Rattle.arena.specs.declared.node.Node.TheVariants.{BitVec, Numeral, String, Symbol, App, NoNode}
 use Rattle.arena.specs.Tree.{BitVector}
 use Rattle.arena.specs.Node.{node_at, after_at}
 use Rattle.arena.specs.Text.{text_at}
-use Rattle.arena_check.specs.declared.node.Step.{Step}
-use Rattle.arena_check.specs.declared.node.Step.TheVariants.{To, Wrong}
 
 -- an answer that is yes where something holds, and no where it does not
 pub record Tells (P : Type 0) (r : Bool) : Type 0 where
@@ -15,10 +13,10 @@ pub record Tells (P : Type 0) (r : Bool) : Type 0 where
   pub no : r ≡ false → P → ⊥
 
 -- the same, where yes goes on to a number
-pub record Steps (P : Type 0) (next : ℕ) (r : Step) : Type 0 where
-  pub right : (n : ℕ) → r ≡ To n → P
-  pub goes : (n : ℕ) → r ≡ To n → n ≡ next
-  pub wrong : r ≡ Wrong → P → ⊥
+pub record Steps (P : Type 0) (next : ℕ) (r : Option ℕ) : Type 0 where
+  pub right : (n : ℕ) → r ≡ Some n → P
+  pub goes : (n : ℕ) → r ≡ Some n → n ≡ next
+  pub wrong : r ≡ None → P → ⊥
 
 -- a node ends behind itself and no later than e, and the others follow
 pub record Link (ws : List ℕ) (p e : ℕ) (Others : Type 0) : Type 0 where
@@ -64,5 +62,5 @@ takes (Symbol size offset) = size
 takes (App children end) = 0
 takes NoNode = 0
 
-abbrev pub StepsAt : List ℕ → List ℕ → ℕ → ℕ → Step → Type 0
+abbrev pub StepsAt : List ℕ → List ℕ → ℕ → ℕ → Option ℕ → Type 0
 StepsAt ws ts i x r = Steps (Right (node_at ws i) ws ts i x) (x + takes (node_at ws i)) r

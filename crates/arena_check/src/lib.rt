@@ -6,46 +6,37 @@ mod node;
 ghost use Rattle.arena_check.specs.Checks.{Checks};
 
 use arena::after;
-use node::{Step, check_node};
+use node::check_node;
 use refusals::Refusal;
 
 #[derive(Clone, Copy)]
-pub enum Checked {
-    Tree { nodes: usize, text: usize },
-    Refused(Refusal),
+pub struct Checked {
+    pub nodes: usize,
+    pub text: usize,
 }
 
-const MOST_NODES: usize = 16777216;
+const MOST_NODES: usize = 1 << 24;
 
-const MOST_TEXT: usize = 33554432;
+const MOST_TEXT: usize = 1 << 25;
 
 // One root: the nodes up to its end are the whole. Each node is looked at once, and since a node is reached only when all that hold it
 // were right, it is hopped over by one application alone: the time is linear in the words and the text.
-pub fn check_arena(words: &[u64], text: &[u8]) -> Checked
+pub fn check_arena(words: &[u64], text: &[u8]) -> Result<Checked, Refusal>
     ensures { Checks words.now text.now result }
 {
     let end = after(words, 0);
-    if end == 0 {
-        return Checked::Refused(Refusal::BadArena);
-    }
-    if MOST_NODES < end {
-        return Checked::Refused(Refusal::BadArena);
+    if end == 0 || MOST_NODES < end {
+        return Err(Refusal::BadArena);
     }
     let mut from = 0;
-    let mut at = 0;
-    while at < end {
-        let taken = check_node(words, text, at, from);
-        let Step::To(next) = taken else {
-            return Checked::Refused(Refusal::BadArena);
-        };
-        from = next;
-        at += 1;
+    for at in 0..end {
+        from = check_node(words, text, at, from).ok_or(Refusal::BadArena)?;
     }
     if MOST_TEXT < from {
-        return Checked::Refused(Refusal::BadArena);
+        return Err(Refusal::BadArena);
     }
-    Checked::Tree {
+    Ok(Checked {
         nodes: end,
         text: from,
-    }
+    })
 }

@@ -1,8 +1,8 @@
 -- Arms by repetition, each laid as a record: what is left of a body, and that all are laid once the rest is.
 -- Assumes nothing.
+use Rattle.std.proofs.Common.{None, Some, Option, Ok}
 use mathlib.Core.Path.{◌≡◌, sym, subst}
 use mathlib.Core.List.{List, []}
-use mathlib.Core.Option.{none, some}
 use Prim.Native.Nat.{ℕ, ◌≤◌}
 use native.Mathlib.Omega.{arith}
 use lib.ListN.{length}
@@ -11,12 +11,10 @@ use Rattle.arena.specs.Tree.{Tree}
 use Rattle.tables.specs.Layout.{Lent, tables_of}
 use Rattle.tables.specs.Sort.{Tables}
 use Rattle.shapes.specs.Shows.{Standing, Reads}
-use Rattle.sorts.specs.Result.{ok}
 use Rattle.sorts.specs.Sort.{levels}
 use Rattle.means.specs.Literal.{Lit, read}
 use Rattle.well_sorted.proofs.Results.{ok_same, went, passed, was-found}
 use Rattle.value_text.specs.Value.{Given}
-use Rattle.commands.specs.declared.chain.LinkFound.{LinkFound}
 use Rattle.commands.specs.Command.{Chain, chain, default, arm, key}
 use Rattle.commands.specs.LinkShows.{LinkShows, LinkAt}
 use Rattle.commands.proofs.Links.{standing-within, shown-link}
@@ -26,20 +24,21 @@ use Rattle.arms.specs.declared.chain.Chained.{Chained}
 use Rattle.arms.specs.Arm.{WritesArm}
 use Rattle.arms.specs.Walk.{LaysArms, WritesChain}
 use Rattle.arms.proofs.Rests.{Rest, rest-start, rest_end, rest_else, key_fits, value-fits, rest_more}
+use Rattle.commands.specs.declared.chain.Link.{Link}
 
 -- what a chain with one more arm in front is read as
 record Opened (T : Tables) (x : List ℕ) (argument result : ℕ) (b c : Tree) (rest : Chain) (table : Table) : Type 0 where
   node : Tree
-  found : key x b ≡ some node
+  found : key x b ≡ Some node
   keyed : Lit
-  keyed-was : read T levels none node ≡ ok keyed
+  keyed-was : read T levels None node ≡ Ok keyed
   valued : Lit
-  valued-was : read T levels (some result) c ≡ ok valued
+  valued-was : read T levels (Some result) c ≡ Ok valued
   below : Table
-  below-was : read_chain T x argument result rest ≡ ok below
+  below-was : read_chain T x argument result rest ≡ Ok below
   is : push (arm_of keyed.value valued.value) below ≡ table
 
-opened : (T : Tables) (x : List ℕ) (argument result : ℕ) (b c : Tree) (rest : Chain) (table : Table) → read_chain T x argument result (arm b c rest) ≡ ok table → Opened T x argument result b c rest table
+opened : (T : Tables) (x : List ℕ) (argument result : ℕ) (b c : Tree) (rest : Chain) (table : Table) → read_chain T x argument result (arm b c rest) ≡ Ok table → Opened T x argument result b c rest table
 unfolding read_chain
 opened T x argument result b c rest table e =
     let a = went _ _ table e in
@@ -64,14 +63,14 @@ pub record Going (T : Tables) (x ws ts : List ℕ) (argument result : ℕ) (tabl
   pub here : Tree
   pub there : Standing here ws ts at
   pub left : Table
-  pub reads : read_chain T x argument result (chain here) ≡ ok left
+  pub reads : read_chain T x argument result (chain here) ≡ Ok left
   pub rest : Rest T argument result table entry place out to left
 
 module _ (sorts members names ws ts : List ℕ) (offset size body : ℕ) (entry : List ℕ) (place : ℕ) where
   abbrev pub GoingAt : List ℕ → ℕ → ℕ → Type 0
   GoingAt out to at =
       (l : Lent) → Given sorts members names l → (x : List ℕ) (t : Tree) (argument result : ℕ) (table : Table) → Reads x ts offset size → Standing t ws ts body →
-      read_chain (tables_of l) x argument result (chain t) ≡ ok table → TableFits (tables_of l) argument result table →
+      read_chain (tables_of l) x argument result (chain t) ≡ Ok table → TableFits (tables_of l) argument result table →
       Going (tables_of l) x ws ts argument result table entry place out to at
 
   pub chain-start : GoingAt entry place body
@@ -85,13 +84,13 @@ module _ (sorts members names ws ts : List ℕ) (offset size body : ℕ) (entry 
         let z = standing-within w.here ws ts at w.there in
         absurd (omega arith)
 
-    module _ (q : LinkFound) (k : LinkAt ws ts at q) where
-      pub chain-end : q ≡ LinkFound.Default → (c : Chained) → c.node ≡ at → c.place ≡ to → WritesChain sorts members names ws ts offset size body entry out place c
+    module _ (q : Option Link) (k : LinkAt ws ts at q) where
+      pub chain-end : q ≡ None → (c : Chained) → c.node ≡ at → c.place ≡ to → WritesChain sorts members names ws ts offset size body entry out place c
       unfolding read_chain
       chain-end d c n p l g x t argument result table r s e f =
           let w = h l g x t argument result table r s e f in
-          let z : chain w.here ≡ default w.here = shown-link ws ts at q LinkFound.Default d k w.here w.there in
-          let m : read_chain (tables_of l) x argument result (default w.here) ≡ ok w.left = subst (λ (y : Chain). read_chain (tables_of l) x argument result y ≡ ok w.left) z w.reads in
+          let z : chain w.here ≡ default w.here = shown-link ws ts at q None d k w.here w.there in
+          let m : read_chain (tables_of l) x argument result (default w.here) ≡ Ok w.left = subst (λ (y : Chain). read_chain (tables_of l) x argument result y ≡ Ok w.left) z w.reads in
           let v = went _ _ w.left m in
           let u = passed _ UnmatchedType _ w.left v.next in
           let i : table_of [] v.got.value ≡ w.left = ok_same u.1 in
@@ -108,9 +107,9 @@ module _ (sorts members names ws ts : List ℕ) (offset size body : ℕ) (entry 
             };
           }
 
-      module _ (test value rest : ℕ) (d : q ≡ LinkFound.Arm test value rest) where
-        shown : (t : Tree) → Standing t ws ts at → LinkShows ws ts at (LinkFound.Arm test value rest) t
-        shown t s = shown-link ws ts at q (LinkFound.Arm test value rest) d k t s
+      module _ (test value rest : ℕ) (d : q ≡ Some (record { test = test; value = value; rest = rest })) where
+        shown : (t : Tree) → Standing t ws ts at → LinkShows ws ts at (Some (record { test = test; value = value; rest = rest })) t
+        shown t s = shown-link ws ts at q (Some (record { test = test; value = value; rest = rest })) d k t s
 
         -- what follows an arm stands behind it
         pub chain-behind : rest ≤ at → (exit : List ℕ) (c : Chained) → WritesChain sorts members names ws ts offset size body entry exit place c
@@ -128,7 +127,7 @@ module _ (sorts members names ws ts : List ℕ) (offset size body : ℕ) (entry 
                 let one = arm_of o.keyed.value o.valued.value in
                 let keys = key_fits (tables_of l) argument result table entry place out to w.left w.rest one o.below o.is in
                 let values = value-fits (tables_of l) argument result table entry place out to w.left w.rest one o.below o.is in
-                let put = laid l g x u o.node o.keyed argument r su o.found o.keyed-was keys c (some result) o.valued result sc o.valued-was values in
+                let put = laid l g x u o.node o.keyed argument r su o.found o.keyed-was keys c (Some result) o.valued result sc o.valued-was values in
                 record {
                   here = d;
                   there = sd;
@@ -141,4 +140,4 @@ module _ (sorts members names ws ts : List ℕ) (offset size body : ℕ) (entry 
             go w =
                 let v = shown w.here w.there in
                 after w v.0 v.1 v.2 v.5 v.6 v.7
-                (opened (tables_of l) x argument result v.0 v.1 (chain v.2) w.left (subst (λ (y : Chain). read_chain (tables_of l) x argument result y ≡ ok w.left) v.4 w.reads))
+                (opened (tables_of l) x argument result v.0 v.1 (chain v.2) w.left (subst (λ (y : Chain). read_chain (tables_of l) x argument result y ≡ Ok w.left) v.4 w.reads))

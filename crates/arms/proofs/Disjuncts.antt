@@ -1,9 +1,9 @@
 -- The tests of an `or` body, each laid as a record: what is left of them, and that all are laid once the rest is.
 -- Assumes nothing.
+use Rattle.std.proofs.Common.{None, Some, Ok}
 use mathlib.Core.Path.{◌≡◌, refl, ap, ◌∙◌, subst}
 use mathlib.Core.Bool.{true, false}
 use mathlib.Core.List.{List, []}
-use mathlib.Core.Option.{none, some}
 use Prim.Native.Nat.{ℕ, ◌+◌, ◌-◌, ◌≤◌, ◌<◌}
 use native.Mathlib.Omega.{arith}
 use Rattle.refusals.specs.declared.Refusal.TheVariants.{UnmatchedType, UnexpectedForm}
@@ -13,7 +13,6 @@ use Rattle.tables.specs.Layout.{Lent, tables_of}
 use Rattle.tables.specs.Sort.{Tables}
 use Rattle.shapes.specs.Shows.{StandingAll, Reads}
 use Rattle.shapes.proofs.Stood.{first_of, others-of}
-use Rattle.sorts.specs.Result.{ok}
 use Rattle.sorts.specs.Sort.{levels}
 use Rattle.values.specs.Value.{v_bool}
 use Rattle.means.specs.Literal.{Lit, read}
@@ -29,14 +28,14 @@ use Rattle.arms.proofs.Rests.{Rest, rest-start, rest_end, key_fits, rest_more}
 -- what tests with one more in front are read as
 record Opened (T : Tables) (x : List ℕ) (argument result : ℕ) (b : Tree) (us : Trees) (table : Table) : Type 0 where
   node : Tree
-  found : key x b ≡ some node
+  found : key x b ≡ Some node
   keyed : Lit
-  keyed-was : read T levels none node ≡ ok keyed
+  keyed-was : read T levels None node ≡ Ok keyed
   below : Table
-  below-was : read_tests T x argument result us ≡ ok below
+  below-was : read_tests T x argument result us ≡ Ok below
   is : push (arm_of keyed.value (v_bool true)) below ≡ table
 
-opened : (T : Tables) (x : List ℕ) (argument result : ℕ) (b : Tree) (us : Trees) (table : Table) → read_tests T x argument result (cons b us) ≡ ok table → Opened T x argument result b us table
+opened : (T : Tables) (x : List ℕ) (argument result : ℕ) (b : Tree) (us : Trees) (table : Table) → read_tests T x argument result (cons b us) ≡ Ok table → Opened T x argument result b us table
 unfolding read_tests
 opened T x argument result b us table e =
     let a = went _ _ table e in
@@ -54,7 +53,7 @@ opened T x argument result b us table e =
     }
 
 -- elsewhere the value is false
-pub tests_else : (T : Tables) (x : List ℕ) (argument result : ℕ) (us : Trees) (table : Table) → read_tests T x argument result us ≡ ok table → v_bool false ≡ table.«else»
+pub tests_else : (T : Tables) (x : List ℕ) (argument result : ℕ) (us : Trees) (table : Table) → read_tests T x argument result us ≡ Ok table → v_bool false ≡ table.«else»
 unfolding read_tests
 tests_else T x argument result nil table e = ap (λ (y : Table). y.«else») (ok_same e)
 tests_else T x argument result (cons b us) table e =
@@ -65,14 +64,14 @@ pub record Going (T : Tables) (x ws ts : List ℕ) (argument result : ℕ) (tabl
   pub others : Trees
   pub there : StandingAll others ws ts at still
   pub left : Table
-  pub reads : read_tests T x argument result others ≡ ok left
+  pub reads : read_tests T x argument result others ≡ Ok left
   pub rest : Rest T argument result table entry place out to left
 
 module _ (sorts members names ws ts : List ℕ) (offset size first many : ℕ) (entry : List ℕ) (place : ℕ) where
   abbrev pub GoingAt : List ℕ → ℕ → ℕ → ℕ → Type 0
   GoingAt out to at i =
       (l : Lent) → Given sorts members names l → (x : List ℕ) (us : Trees) (argument result : ℕ) (table : Table) → Reads x ts offset size → StandingAll us ws ts first many →
-      read_tests (tables_of l) x argument result us ≡ ok table → TableFits (tables_of l) argument result table →
+      read_tests (tables_of l) x argument result us ≡ Ok table → TableFits (tables_of l) argument result table →
       Going (tables_of l) x ws ts argument result table entry place out to at (many - i)
 
   pub tests-start : GoingAt entry place first 0
@@ -88,7 +87,7 @@ module _ (sorts members names ws ts : List ℕ) (offset size first many : ℕ) (
         go : (w : Going (tables_of l) x ws ts argument result table entry place out to at (many - i)) (os : Trees) → w.others ≡ os → LaysArms table.arms entry out place to
         go w (cons u os) o = let c = w.there.many-are in let z = ap count o in absurd (omega arith)
         go w nil o =
-            let m : read_tests (tables_of l) x argument result nil ≡ ok w.left = subst (λ (y : Trees). read_tests (tables_of l) x argument result y ≡ ok w.left) o w.reads in
+            let m : read_tests (tables_of l) x argument result nil ≡ Ok w.left = subst (λ (y : Trees). read_tests (tables_of l) x argument result y ≡ Ok w.left) o w.reads in
             let k : table_of [] (v_bool false) ≡ w.left = ok_same m in
             rest_end (tables_of l) argument result table entry place out to w.left w.rest (v_bool false) k
 
@@ -100,7 +99,7 @@ module _ (sorts members names ws ts : List ℕ) (offset size first many : ℕ) (
           go w nil o = let c = w.there.many-are in let z = ap count o in absurd (omega arith)
           go w (cons u os) o =
               let st : StandingAll (cons u os) ws ts at (many - i) = subst (λ (y : Trees). StandingAll y ws ts at (many - i)) o w.there in
-              let p = opened (tables_of l) x argument result u os w.left (subst (λ (y : Trees). read_tests (tables_of l) x argument result y ≡ ok w.left) o w.reads) in
+              let p = opened (tables_of l) x argument result u os w.left (subst (λ (y : Trees). read_tests (tables_of l) x argument result y ≡ Ok w.left) o w.reads) in
               let one = arm_of p.keyed.value (v_bool true) in
               let keys = key_fits (tables_of l) argument result table entry place out to w.left w.rest one p.below p.is in
               let put = laid l g x u p.node p.keyed argument r (first_of ws ts u os at (many - i) st) p.found p.keyed-was keys in

@@ -1,11 +1,9 @@
 -- Document 01, "The model walk" and "The listing": what is left where one arm is written as a record.
-use Rattle.std.specs.Prelude.{◌≡◌, true, List, ℕ}
-use Rattle.std.proofs.Math.Option.{Option, none, some}
+use Rattle.std.specs.Prelude.{◌≡◌, true, List, ℕ, None, Option, Some, Ok}
 use Rattle.arena.specs.Tree.{Tree}
 use Rattle.tables.specs.Layout.{Lent, tables_of}
 use Rattle.tables.specs.Sort.{Tables}
 use Rattle.shapes.specs.Shows.{Standing, Reads}
-use Rattle.sorts.specs.Result.{ok}
 use Rattle.sorts.specs.Sort.{levels}
 use Rattle.values.specs.Value.{Value, v_bool}
 use Rattle.values.specs.Normal.{normal}
@@ -26,8 +24,8 @@ module _ (sorts members names ws ts : List ℕ) (offset size : ℕ) where
   -- of what the key of the test at a node is read as, which has a sort
   abbrev pub KeyRead : ℕ → (Tables → Value → Type 0) → Type 0
   KeyRead test P =
-      (l : Lent) → Given sorts members names l → (x : List ℕ) (b k : Tree) (m : Lit) (row : ℕ) → Reads x ts offset size → Standing b ws ts test → key x b ≡ some k →
-      read (tables_of l) levels none k ≡ ok m → HasSort m.value Loose (tables_of l) row → P (tables_of l) m.value
+      (l : Lent) → Given sorts members names l → (x : List ℕ) (b k : Tree) (m : Lit) (row : ℕ) → Reads x ts offset size → Standing b ws ts test → key x b ≡ Some k →
+      read (tables_of l) levels None k ≡ Ok m → HasSort m.value Loose (tables_of l) row → P (tables_of l) m.value
 
   abbrev pub WritesWhen : ℕ → List ℕ → List ℕ → ℕ → ℕ → Type 0
   WritesWhen test entry exit place r = KeyRead test (λ T v. Lays (when_text v) (when_text (normal v)) entry exit place r)
@@ -35,7 +33,7 @@ module _ (sorts members names ws ts : List ℕ) (offset size : ℕ) where
   -- with the value at another node
   abbrev pub WritesArm : ℕ → ℕ → List ℕ → List ℕ → ℕ → ℕ → Type 0
   WritesArm test value entry exit place r =
-      KeyRead test (λ T v. (c : Tree) (expected : Option ℕ) (n : Lit) (row : ℕ) → Standing c ws ts value → read T levels expected c ≡ ok n → HasSort n.value Loose T row →
+      KeyRead test (λ T v. (c : Tree) (expected : Option ℕ) (n : Lit) (row : ℕ) → Standing c ws ts value → read T levels expected c ≡ Ok n → HasSort n.value Loose T row →
       LaysArm (arm_of v n.value) entry exit place r)
 
   -- one test of an `or`

@@ -1,7 +1,7 @@
 // An arm as a record of a run: its key up to the line end, what hangs on it, and the end.
 ghost use Rattle.arms.specs.Arm.{WritesWhen, WritesArm, WritesTest};
 
-use commands::{KeyFound, key_at};
+use commands::key_at;
 use lent::put;
 use runs::END;
 use sorts::LEVELS;
@@ -23,17 +23,14 @@ fn write_when(
 ) -> usize
     ensures { WritesWhen sorts.now members.now names.now nodes.now text.now offset size test out.old out.new place result }
 {
-    let key = key_at(nodes, text, test, offset, size);
-    match key {
-        KeyFound::Key(node) => {
-            let one = put(b"when=", out, place);
-            let two = write_inside(
-                sorts, members, names, nodes, text, node, LEVELS, scratch, out, one,
-            );
-            put(b"\nthen=", out, two)
-        }
-        KeyFound::NoKey => place,
-    }
+    let Some(node) = key_at(nodes, text, test, offset, size) else {
+        return place;
+    };
+    let one = put(b"when=", out, place);
+    let two = write_inside(
+        sorts, members, names, nodes, text, node, LEVELS, scratch, out, one,
+    );
+    put(b"\nthen=", out, two)
 }
 
 // An arm, by the nodes of its test and its value.

@@ -2,7 +2,7 @@
 ghost use Rattle.arms.specs.Walk.{WritesChain};
 
 use crate::arm::write_arm;
-use commands::{LinkFound, link_at};
+use commands::{Link, link_at};
 
 // The node of the default, and the place after the last record.
 #[derive(Clone, Copy)]
@@ -30,27 +30,16 @@ pub fn write_chain(
     let mut at = body;
     let mut to = place;
     while at < nodes.len() {
-        let link = link_at(nodes, text, at);
-        match link {
-            LinkFound::Arm { test, value, rest } => {
-                if rest <= at {
-                    return Chained {
-                        node: at,
-                        place: to,
-                    };
-                }
-                to = write_arm(
-                    sorts, members, names, nodes, text, offset, size, test, value, scratch, out, to,
-                );
-                at = rest;
-            }
-            LinkFound::Default => {
-                return Chained {
-                    node: at,
-                    place: to,
-                };
-            }
+        let Some(Link { test, value, rest }) = link_at(nodes, text, at) else {
+            break;
+        };
+        if rest <= at {
+            break;
         }
+        to = write_arm(
+            sorts, members, names, nodes, text, offset, size, test, value, scratch, out, to,
+        );
+        at = rest;
     }
     Chained {
         node: at,

@@ -4,7 +4,7 @@ ghost use Rattle.arms.specs.Table.{WritesElse, WritesTable};
 use crate::chain::write_chain;
 use crate::settle::settle;
 use crate::tests::write_tests;
-use commands::{TestsFound, tests_at};
+use commands::{Disjunction, tests_at};
 use lent::put;
 use sorts::LEVELS;
 use value_text::write_inside;
@@ -46,16 +46,15 @@ pub fn write_table(
 ) -> usize
     ensures { WritesTable sorts.now members.now names.now nodes.now text.now offset size body out.old out.new place result }
 {
-    let tests = tests_at(nodes, text, body);
-    match tests {
-        TestsFound::Tests { first, count } => {
+    match tests_at(nodes, text, body) {
+        Some(Disjunction { first, count }) => {
             let end = write_tests(
                 sorts, members, names, nodes, text, offset, size, first, count, scratch, out, place,
             );
             let next = settle(scratch, out, place, end);
             put(b"else=false\n", out, next)
         }
-        TestsFound::NoTests => {
+        None => {
             let chained = write_chain(
                 sorts, members, names, nodes, text, offset, size, body, scratch, out, place,
             );

@@ -23,13 +23,11 @@ pub fn write_tests(
 {
     let mut at = first;
     let mut to = place;
-    let mut i: u64 = 0;
-    while i < count {
+    for _ in 0..count {
         to = write_test(
             sorts, members, names, nodes, text, offset, size, at, scratch, out, to,
         );
         at = after(nodes, at);
-        i += 1;
     }
     to
 }

@@ -36,7 +36,7 @@ fn bump(depth: usize, nodes: &mut [u64], stack: &[u64])
     }
     let list = stack[depth - 1] as usize;
     let cell = list * STRIDE + CHILDREN;
-    nodes[cell] = nodes[cell] + 1;
+    nodes[cell] += 1;
 }
 
 // A list begins: its count and its end are still to come.
@@ -80,9 +80,5 @@ pub fn clear(stack: &mut [u64], count: usize)
     requires { count ≤ length stack.old }
     ensures { stack.new ≡ replicate count 0 ++ drop count stack.old }
 {
-    let mut at = 0;
-    while at < count {
-        stack[at] = 0;
-        at += 1;
-    }
+    stack[..count].fill(0);
 }

@@ -1,5 +1,5 @@
 // The walk in numbers: how many brackets are open, and what the tree needs so far.
-ghost use Rattle.std.specs.Prelude.{◌≡◌, max, ◌+◌, ◌<◌, ◌^◌};
+ghost use Rattle.std.specs.Prelude.{◌≡◌, ◌+◌, ◌<◌, ◌^◌};
 ghost use Rattle.brackets.specs.Count.{start, stopped, while, opened, closed, added};
 
 #[derive(Clone, Copy)]
@@ -19,12 +19,6 @@ pub struct Scan {
     pub most: usize,
 }
 
-fn greater(a: usize, b: usize) -> usize
-    ensures { result ≡ max a b }
-{
-    if a < b { b } else { a }
-}
-
 impl Scan {
     pub fn begin() -> Self
         ensures { result ≡ start }
@@ -41,12 +35,16 @@ impl Scan {
     fn with_phase(self, phase: Phase) -> Self
         ensures { result ≡ stopped self phase }
     {
-        Scan {
-            phase,
-            depth: self.depth,
-            nodes: self.nodes,
-            text: self.text,
-            most: self.most,
+        Scan { phase, ..self }
+    }
+
+    // A token after the walk's end: a walk that is done refuses it.
+    fn ended(self) -> Self
+        ensures { result ≡ while self self self.phase }
+    {
+        match self.phase {
+            Phase::Done => self.with_phase(Phase::Trailing),
+            _ => self,
         }
     }
 
@@ -55,22 +53,18 @@ impl Scan {
         requires { (self.depth < 2 ^ 63) × (self.nodes < 2 ^ 63) }
         ensures { result ≡ while self (opened self) self.phase }
     {
-        let phase = self.phase;
-        match phase {
+        match self.phase {
             Phase::Going => {
                 let depth = self.depth + 1;
-                let most = greater(self.most, depth);
                 Scan {
                     phase: Phase::Going,
                     depth,
                     nodes: self.nodes + 1,
-                    text: self.text,
-                    most,
+                    most: self.most.max(depth),
+                    ..self
                 }
             }
-            Phase::Done => self.with_phase(Phase::Trailing),
-            Phase::Unclosed => self,
-            Phase::Trailing => self,
+            _ => self.ended(),
         }
     }
 
@@ -78,15 +72,13 @@ impl Scan {
     pub fn closes(self) -> Self
         ensures { result ≡ while self (closed self) self.phase }
     {
-        let phase = self.phase;
-        match phase {
+        match self.phase {
             Phase::Going => self.close_one(),
-            Phase::Done => self.with_phase(Phase::Trailing),
-            Phase::Unclosed => self,
-            Phase::Trailing => self,
+            _ => self.ended(),
         }
     }
 
+    // Stays: each branch names its phase, here and in `add_one`; computed in one place it hid from the compiler that a walk goes on, and `()` took half as long again.
     fn close_one(self) -> Self
         ensures { result ≡ closed self }
     {
@@ -98,17 +90,13 @@ impl Scan {
             return Scan {
                 phase: Phase::Done,
                 depth,
-                nodes: self.nodes,
-                text: self.text,
-                most: self.most,
+                ..self
             };
         }
         Scan {
             phase: Phase::Going,
             depth,
-            nodes: self.nodes,
-            text: self.text,
-            most: self.most,
+            ..self
         }
     }
 
@@ -117,12 +105,9 @@ impl Scan {
         requires { (self.nodes < 2 ^ 63) × (self.text + size < 2 ^ 63) }
         ensures { result ≡ while self (added self size) self.phase }
     {
-        let phase = self.phase;
-        match phase {
+        match self.phase {
             Phase::Going => self.add_one(size),
-            Phase::Done => self.with_phase(Phase::Trailing),
-            Phase::Unclosed => self,
-            Phase::Trailing => self,
+            _ => self.ended(),
         }
     }
 
@@ -135,18 +120,16 @@ impl Scan {
         if self.depth == 0 {
             return Scan {
                 phase: Phase::Done,
-                depth: self.depth,
                 nodes,
                 text,
-                most: self.most,
+                ..self
             };
         }
         Scan {
             phase: Phase::Going,
-            depth: self.depth,
             nodes,
             text,
-            most: self.most,
+            ..self
         }
     }
 }

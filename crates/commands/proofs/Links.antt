@@ -1,5 +1,6 @@
 -- The chain of a body a step at a time, and one law for each way out of the matching of a step.
 -- Assumes nothing.
+use Rattle.std.proofs.Common.{None, Option, Some}
 use mathlib.Core.Path.{◌≡◌, refl, sym, ap, ◌∙◌, subst}
 use mathlib.Core.Bool.{true, false, true≢false}
 use mathlib.Core.List.{List}
@@ -10,8 +11,6 @@ use Rattle.ground.specs.Bytes.{bytes}
 use Rattle.arena.specs.Node.{after_at}
 use Rattle.arena.specs.Text.{same_text, text_is}
 use Rattle.arena.specs.Tree.{Tree, Trees, bit_vec, numeral, string, symbol, app, nil, cons}
-use Rattle.shapes.specs.declared.look.Word.{Word}
-use Rattle.shapes.specs.declared.look.Parts.{Parts}
 use Rattle.shapes.specs.Shape.{on_symbol, on_app}
 use Rattle.arena.proofs.Layouts.{stands-longer, stands_after}
 use Rattle.arena.proofs.Views.{node-within}
@@ -19,9 +18,10 @@ use Rattle.shapes.specs.Shows.{Standing, StandingAll, Reads, WordAt, PartsAt}
 use Rattle.shapes.proofs.Stood.{first_of, others-of, said-so, said-name}
 use Rattle.shapes.proofs.Seen.{not-word, by_word, not-list, by-list}
 use Rattle.shapes.proofs.Arms.{not-symbol}
-use Rattle.commands.specs.declared.chain.LinkFound.{LinkFound}
 use Rattle.commands.specs.Command.{default, arm, chain}
 use Rattle.commands.specs.LinkShows.{ite, LinkShows, LinkAt}
+use Rattle.commands.specs.declared.chain.Link.{Link}
+use Rattle.shapes.specs.declared.look.Word.{Word}
 
 -- a tree stands within the words
 pub standing-within : (t : Tree) (ws ts : List ℕ) (at : ℕ) → Standing t ws ts at → at < length ws
@@ -32,8 +32,8 @@ standing-within (symbol t) ws ts at s = let z = node-within ws at s.there.here r
 standing-within (app us) ws ts at s = let z = node-within ws at s.there.here refl in omega arith
 
 -- what a step was seen as, said of the tree that stands there
-pub shown-link : (ws ts : List ℕ) (at : ℕ) (q p : LinkFound) → q ≡ p → LinkAt ws ts at q → LinkAt ws ts at p
-shown-link ws ts at q p e k t s = subst (λ (y : LinkFound). LinkShows ws ts at y t) e (k t s)
+pub shown-link : (ws ts : List ℕ) (at : ℕ) (q p : Option Link) → q ≡ p → LinkAt ws ts at q → LinkAt ws ts at p
+shown-link ws ts at q p e k t s = subst (λ (y : Option Link). LinkShows ws ts at y t) e (k t s)
 
 pub chain-arm : (b c d : Tree) → chain (ite b c d) ≡ arm b c (chain d)
 unfolding chain same_text
@@ -64,11 +64,11 @@ later ws ts t i s =
     let p = stands-longer ws ts t i s.next s.from s.rest s.there in
     subst (λ (j : ℕ). i < j) (stands_after ws ts t i s.next s.from s.rest s.there) p
 
-module _ (ws ts : List ℕ) (i : ℕ) (l : Parts) (h : PartsAt ws i l) where
-  pub link-atom : l ≡ Parts.NoList → LinkAt ws ts i LinkFound.Default
+module _ (ws ts : List ℕ) (i : ℕ) (l : Option ℕ) (h : PartsAt ws i l) where
+  pub link-atom : l ≡ None → LinkAt ws ts i None
   link-atom e t s = chain-atom t (not-list ws i l h e ts t s)
 
-  module _ (many : ℕ) (e : l ≡ Parts.Children many) where
+  module _ (many : ℕ) (e : l ≡ Some many) where
     not-four : (us : Trees) → (many ≡ 4 → ⊥) → StandingAll us ws ts (i + 1) many → chain (app us) ≡ default (app us)
     unfolding chain
     not-four nil z s = refl
@@ -78,12 +78,12 @@ module _ (ws ts : List ℕ) (i : ℕ) (l : Parts) (h : PartsAt ws i l) where
     not-four (cons a (cons b (cons c (cons d nil)))) z s = absurd (z s.many-are)
     not-four (cons a (cons b (cons c (cons d (cons f us))))) z s = refl
 
-    pub link-parts : (many ≡ 4 → ⊥) → LinkAt ws ts i LinkFound.Default
+    pub link-parts : (many ≡ 4 → ⊥) → LinkAt ws ts i None
     link-parts z t s = by-list ws i l h many e ts (λ (x : Tree). chain x ≡ default x) (λ us g. not-four us z g) t s
 
     module _ (z : many ≡ 4) (head : ℕ) (begins : head ≡ i + 1) where
       -- it is enough to look at four parts
-      by-four : (f : LinkFound) → ((a b c d : Tree) → StandingAll (cons a (cons b (cons c (cons d nil)))) ws ts head 4 → LinkShows ws ts i f (four a b c d)) → LinkAt ws ts i f
+      by-four : (f : Option Link) → ((a b c d : Tree) → StandingAll (cons a (cons b (cons c (cons d nil)))) ws ts head 4 → LinkShows ws ts i f (four a b c d)) → LinkAt ws ts i f
       by-four f k t s = by-list ws i l h many e ts (λ (x : Tree). LinkShows ws ts i f x) all t s
         where
           all : (us : Trees) → StandingAll us ws ts (i + 1) many → LinkShows ws ts i f (app us)
@@ -97,19 +97,19 @@ module _ (ws ts : List ℕ) (i : ℕ) (l : Parts) (h : PartsAt ws i l) where
               (subst (λ (n : ℕ). StandingAll (cons a (cons b (cons c (cons d nil)))) ws ts (i + 1) n) z s))
           all (cons a (cons b (cons c (cons d (cons g us))))) s = let c = s.many-are in absurd (omega arith)
 
-      module _ (w : Word) (m : WordAt ws head w) where
-        pub link_headless : w ≡ Word.NoSymbol → LinkAt ws ts i LinkFound.Default
-        link_headless q = by-four LinkFound.Default (λ a b c d s. chain_headless a b c d (not-word ws head w m ts q a (first_of ws ts a (cons b (cons c (cons d nil))) head 4 s)))
+      module _ (w : Option Word) (m : WordAt ws head w) where
+        pub link_headless : w ≡ None → LinkAt ws ts i None
+        link_headless q = by-four None (λ a b c d s. chain_headless a b c d (not-word ws head w m ts q a (first_of ws ts a (cons b (cons c (cons d nil))) head 4 s)))
 
-        module _ (size offset : ℕ) (q : w ≡ Word.Symbol size offset) where
-          by-head : (f : LinkFound) → ((word : List ℕ) (b c d : Tree) → Reads word ts offset size → StandingAll (cons (symbol word) (cons b (cons c (cons d nil)))) ws ts head 4 → LinkShows ws ts i f (four (symbol word) b c d)) → LinkAt ws ts i f
+        module _ (size offset : ℕ) (q : w ≡ Some (record { size = size; offset = offset })) where
+          by-head : (f : Option Link) → ((word : List ℕ) (b c d : Tree) → Reads word ts offset size → StandingAll (cons (symbol word) (cons b (cons c (cons d nil)))) ws ts head 4 → LinkShows ws ts i f (four (symbol word) b c d)) → LinkAt ws ts i f
           by-head f k =
               by-four f
               (λ a b c d s. by_word ws head w m ts size offset q (λ (x : Tree). StandingAll (cons x (cons b (cons c (cons d nil)))) ws ts head 4 → LinkShows ws ts i f (four x b c d))
               (λ word r g. k word b c d r g) a (first_of ws ts a (cons b (cons c (cons d nil))) head 4 s) s)
 
-          pub link-other : text_is ts offset size (bytes "ite") ≡ false → LinkAt ws ts i LinkFound.Default
-          link-other t = by-head LinkFound.Default (λ word b c d r s. chain-other word b c d (said-so ts offset size word r (bytes "ite") false t))
+          pub link-other : text_is ts offset size (bytes "ite") ≡ false → LinkAt ws ts i None
+          link-other t = by-head None (λ word b c d r s. chain-other word b c d (said-so ts offset size word r (bytes "ite") false t))
 
           behind : (p q r s : ℕ) → q ≡ after_at ws p → r ≡ after_at ws q → s ≡ after_at ws r → i < p → {a b c : Tree} → Standing a ws ts p → Standing b ws ts q → Standing c ws ts r → i < s
           behind p q r s f g k less {a = a} {b = b} {c = c} x y z =
@@ -119,9 +119,9 @@ module _ (ws ts : List ℕ) (i : ℕ) (l : Parts) (h : PartsAt ws i l) where
               omega arith
 
           pub link-arm : text_is ts offset size (bytes "ite") ≡ true → (test : ℕ) → test ≡ after_at ws head → (value : ℕ) → value ≡ after_at ws test → (rest : ℕ) → rest ≡ after_at ws value →
-              LinkAt ws ts i (LinkFound.Arm test value rest)
+              LinkAt ws ts i (Some (record { test = test; value = value; rest = rest }))
           link-arm t test x value y rest v =
-              by-head (LinkFound.Arm test value rest)
+              by-head (Some (record { test = test; value = value; rest = rest }))
               (λ word b c d r s.
               let ites : four (symbol word) b c d ≡ ite b c d = ap (λ (f : List ℕ). four (symbol f) b c d) (said-name ts offset size word r (bytes "ite") t) in
               let one = others-of ws ts (symbol word) (cons b (cons c (cons d nil))) head 4 s test 3 x refl in

@@ -1,9 +1,9 @@
 -- What the shapes of a pair, of a command, of a test and of a body say of the trees.
 -- Assumes nothing.
+use Rattle.std.proofs.Common.{None, Option, Some}
 use mathlib.Core.Path.{◌≡◌, sym, ap, ap₂, subst}
 use mathlib.Core.Bool.{true, true≢false}
 use mathlib.Core.List.{List}
-use mathlib.Core.Option.{Option, none, some}
 use Prim.Native.Nat.{ℕ}
 use lib.ListN.{get_or}
 use Rattle.ground.specs.Bytes.{bytes}
@@ -17,8 +17,8 @@ use Rattle.commands.specs.Command.{Command, variable, function, misshapen, argum
 
 -- (NAME VALUE), (ARG SORT)
 pub data PairView : Tree → Option Pair → Type 0 where
-  p_pair : {name : List ℕ} {t : Tree} → PairView (app (cons (symbol name) (cons t nil))) (some (pair_of name t))
-  p_none : {t : Tree} → PairView t none
+  p_pair : {name : List ℕ} {t : Tree} → PairView (app (cons (symbol name) (cons t nil))) (Some (pair_of name t))
+  p_none : {t : Tree} → PairView t None
 
 two-view : (us : Trees) → PairView (app us) (two us)
 two-view nil = p_none
@@ -107,7 +107,7 @@ module _ (x : List ℕ) where
   argument_is (symbol s) e = ap symbol (same-equal s x e)
   argument_is (app us) e = absurd (true≢false (sym e))
 
-  operand-view : (us : Trees) (k : Tree) → operand x us ≡ some k → TestView x (app us) k
+  operand-view : (us : Trees) (k : Tree) → operand x us ≡ Some k → TestView x (app us) k
   operand-view nil k e = absurd (none-some e)
   operand-view (cons a nil) k e = absurd (none-some e)
   operand-view (cons a (cons b nil)) k e = absurd (none-some e)
@@ -125,7 +125,7 @@ module _ (x : List ℕ) where
   operand-view (cons (app us) (cons b (cons c nil))) k e = absurd (none-some e)
   operand-view (cons a (cons b (cons c (cons d us)))) k e = absurd (none-some e)
 
-  pub key-view : (t k : Tree) → key x t ≡ some k → TestView x t k
+  pub key-view : (t k : Tree) → key x t ≡ Some k → TestView x t k
   unfolding key
   key-view (bit_vec w n) k e = absurd (none-some e)
   key-view (numeral n) k e = absurd (none-some e)
@@ -134,7 +134,7 @@ module _ (x : List ℕ) where
   key-view (app us) k e = operand-view us k e
 
 -- a list of tests
-headed_or_lem : (vs us : Trees) → headed_or vs ≡ some us → vs ≡ cons (symbol (bytes "or")) us
+headed_or_lem : (vs us : Trees) → headed_or vs ≡ Some us → vs ≡ cons (symbol (bytes "or")) us
 headed_or_lem nil us e = absurd (none-some e)
 headed_or_lem (cons (bit_vec w n) vs) us e = absurd (none-some e)
 headed_or_lem (cons (numeral n) vs) us e = absurd (none-some e)
@@ -145,7 +145,7 @@ headed_or_lem (cons (symbol word) vs) us e =
     (λ h. absurd (none-some (rw h at e)))
 headed_or_lem (cons (app ts) vs) us e = absurd (none-some e)
 
-pub tests-view : (t : Tree) (us : Trees) → tests t ≡ some us → t ≡ app (cons (symbol (bytes "or")) us)
+pub tests-view : (t : Tree) (us : Trees) → tests t ≡ Some us → t ≡ app (cons (symbol (bytes "or")) us)
 unfolding tests
 tests-view (bit_vec w n) us e = absurd (none-some e)
 tests-view (numeral n) us e = absurd (none-some e)

@@ -1,6 +1,5 @@
 -- Document 01, "The model walk": the shapes of commands, of function bodies and of tests, matched and nothing read.
-use Rattle.std.specs.Prelude.{Bool, false, cond, List, [], ◌∷◌, ℕ, get_or}
-use Rattle.std.proofs.Math.Option.{Option, none, some}
+use Rattle.std.specs.Prelude.{Bool, false, cond, List, [], ◌∷◌, ℕ, get_or, None, Option, Some}
 use Rattle.arena.specs.Text.{same_text}
 use Rattle.arena.specs.Tree.{Tree, Trees, bit_vec, numeral, string, symbol, app, nil, cons}
 use Rattle.shapes.specs.Shape.{is, on_symbol, on_app}
@@ -14,8 +13,8 @@ pub data Command : Type 0 where
 
 -- (ARG SORT)
 abbrev pub argument : List ℕ → Option Pair → Tree → Tree → Command
-argument name none sort body = misshapen
-argument name (some p) sort body = function name p.name p.second sort body
+argument name None sort body = misshapen
+argument name (Some p) sort body = function name p.name p.second sort body
 
 -- () or ((ARG SORT))
 abbrev pub arguments : List ℕ → Trees → Tree → Tree → Command
@@ -64,11 +63,11 @@ unfoldable mutual
 
 -- a body headed `or` is a list of tests
 abbrev pub headed_or : Trees → Option Trees
-headed_or nil = none
-headed_or (cons h us) = on_symbol h none (λ word. cond (is word "or") (some us) none)
+headed_or nil = None
+headed_or (cons h us) = on_symbol h None (λ word. cond (is word "or") (Some us) None)
 
 unfoldable pub tests : Tree → Option Trees
-tests t = on_app t none headed_or
+tests t = on_app t None headed_or
 
 -- the tree is the argument's name, bars kept
 abbrev pub is_argument : List ℕ → Tree → Bool
@@ -76,11 +75,11 @@ is_argument x t = on_symbol t false (λ s. same_text s x)
 
 -- the key of a test: of (= ARG v), or else of (= v ARG)
 abbrev pub operand : List ℕ → Trees → Option Tree
-operand x nil = none
-operand x (cons a nil) = none
-operand x (cons a (cons b nil)) = none
-operand x (cons a (cons b (cons c nil))) = on_symbol a none (λ word. cond (is word "=") (cond (is_argument x b) (some c) (cond (is_argument x c) (some b) none)) none)
-operand x (cons a (cons b (cons c (cons d us)))) = none
+operand x nil = None
+operand x (cons a nil) = None
+operand x (cons a (cons b nil)) = None
+operand x (cons a (cons b (cons c nil))) = on_symbol a None (λ word. cond (is word "=") (cond (is_argument x b) (Some c) (cond (is_argument x c) (Some b) None)) None)
+operand x (cons a (cons b (cons c (cons d us)))) = None
 
 unfoldable pub key : List ℕ → Tree → Option Tree
-key x t = on_app t none (λ us. operand x us)
+key x t = on_app t None (λ us. operand x us)

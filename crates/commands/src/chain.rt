@@ -2,39 +2,30 @@
 ghost use Rattle.commands.specs.LinkShows.{LinkAt};
 
 use arena::{after, text_is};
-use shapes::{Parts, Word, list_at, symbol_at};
+use shapes::{list_at, symbol_at};
 
 #[derive(Clone, Copy)]
-pub enum LinkFound {
-    Arm {
-        test: usize,
-        value: usize,
-        rest: usize,
-    },
-    Default,
+pub struct Link {
+    pub test: usize,
+    pub value: usize,
+    pub rest: usize,
 }
 
 // (ite TEST VALUE REST), or anything else.
-pub fn link_at(nodes: &[u64], text: &[u8], at: usize) -> LinkFound
+pub fn link_at(nodes: &[u64], text: &[u8], at: usize) -> Option<Link>
     ensures { LinkAt nodes.now text.now at result }
 {
-    let list = list_at(nodes, at);
-    let Parts::Children(count) = list else {
-        return LinkFound::Default;
-    };
+    let count = list_at(nodes, at)?;
     if count != 4 {
-        return LinkFound::Default;
+        return None;
     }
     let head = at + 1;
-    let word = symbol_at(nodes, head);
-    let Word::Symbol { size, offset } = word else {
-        return LinkFound::Default;
-    };
-    if text_is(text, offset, size, b"ite") {
+    let word = symbol_at(nodes, head)?;
+    if text_is(text, word.offset, word.size, b"ite") {
         let test = after(nodes, head);
         let value = after(nodes, test);
         let rest = after(nodes, value);
-        return LinkFound::Arm { test, value, rest };
+        return Some(Link { test, value, rest });
     }
-    LinkFound::Default
+    None
 }

@@ -2,10 +2,10 @@
 ghost use Rattle.std.specs.Prelude.{◌+◌};
 ghost use Rattle.commands.specs.CommandShows.{CommandAt, FiveAt, ArgumentsAt, LastAt, fifth};
 
-use crate::pair::{PairFound, pair_at};
+use crate::pair::pair_at;
 use arena::{after, text_is};
 use refusals::Refusal;
-use shapes::{Parts, Word, list_at, symbol_at};
+use shapes::{list_at, symbol_at};
 
 // A command, with its names' texts and the nodes of its other parts.
 #[derive(Clone, Copy)]
@@ -25,7 +25,6 @@ pub enum CommandFound {
         sort: usize,
         body: usize,
     },
-    Refused(Refusal),
 }
 
 // () or ((ARG SORT)), so many parts from a node on.
@@ -37,83 +36,69 @@ fn arguments(
     count: u64,
     sort: usize,
     body: usize,
-) -> CommandFound
+) -> Result<CommandFound, Refusal>
     ensures arguments_at { ArgumentsAt nodes.now size offset first count sort body result }
     ensures last_at { LastAt body result }
 {
     if count == 0 {
-        return CommandFound::Variable {
+        return Ok(CommandFound::Variable {
             size,
             offset,
             sort,
             value: body,
-        };
+        });
     }
     if count != 1 {
-        return CommandFound::Refused(Refusal::UnexpectedModel);
+        return Err(Refusal::UnexpectedModel);
     }
-    let pair = pair_at(nodes, first);
-    let PairFound::Pair {
-        size: arg_length,
-        offset: arg_offset,
-        second: arg_sort,
-    } = pair
-    else {
-        return CommandFound::Refused(Refusal::UnexpectedModel);
+    let Some(pair) = pair_at(nodes, first) else {
+        return Err(Refusal::UnexpectedModel);
     };
-    CommandFound::Function {
+    Ok(CommandFound::Function {
         size,
         offset,
-        arg_length,
-        arg_offset,
-        arg_sort,
+        arg_length: pair.size,
+        arg_offset: pair.offset,
+        arg_sort: pair.second,
         sort,
         body,
-    }
+    })
 }
 
 // The five parts of a command from a node on.
-fn five(nodes: &[u64], text: &[u8], first: usize) -> CommandFound
+fn five(nodes: &[u64], text: &[u8], first: usize) -> Result<CommandFound, Refusal>
     ensures five_at { FiveAt nodes.now text.now first result }
     ensures last_at { LastAt (fifth nodes.now first) result }
 {
-    let word = symbol_at(nodes, first);
-    let Word::Symbol {
-        size: long,
-        offset: off,
-    } = word
-    else {
-        return CommandFound::Refused(Refusal::UnexpectedModel);
+    let Some(word) = symbol_at(nodes, first) else {
+        return Err(Refusal::UnexpectedModel);
     };
     let second = after(nodes, first);
-    let name = symbol_at(nodes, second);
-    let Word::Symbol { size, offset } = name else {
-        return CommandFound::Refused(Refusal::UnexpectedModel);
+    let Some(name) = symbol_at(nodes, second) else {
+        return Err(Refusal::UnexpectedModel);
     };
     let third = after(nodes, second);
-    let list = list_at(nodes, third);
-    let Parts::Children(count) = list else {
-        return CommandFound::Refused(Refusal::UnexpectedModel);
+    let Some(count) = list_at(nodes, third) else {
+        return Err(Refusal::UnexpectedModel);
     };
-    if text_is(text, off, long, b"define-fun") {
+    if text_is(text, word.offset, word.size, b"define-fun") {
         let sort = after(nodes, third);
         let body = after(nodes, sort);
-        return arguments(nodes, size, offset, third + 1, count, sort, body);
+        return arguments(nodes, name.size, name.offset, third + 1, count, sort, body);
     }
-    CommandFound::Refused(Refusal::UnexpectedModel)
+    Err(Refusal::UnexpectedModel)
 }
 
 // The command at a node.
-pub fn command_at(nodes: &[u64], text: &[u8], at: usize) -> CommandFound
+pub fn command_at(nodes: &[u64], text: &[u8], at: usize) -> Result<CommandFound, Refusal>
     ensures command_at { CommandAt nodes.now text.now at result }
     ensures last_at { LastAt (fifth nodes.now (at + 1)) result }
 {
-    let list = list_at(nodes, at);
-    let Parts::Children(count) = list else {
-        return CommandFound::Refused(Refusal::UnexpectedModel);
+    let Some(count) = list_at(nodes, at) else {
+        return Err(Refusal::UnexpectedModel);
     };
     if count != 5 {
-        return CommandFound::Refused(Refusal::UnexpectedModel);
+        return Err(Refusal::UnexpectedModel);
     }
     five(nodes, text, at + 1)
 }

@@ -7,8 +7,8 @@ mod form;
 mod pair;
 mod test;
 
-pub use chain::{LinkFound, link_at};
+pub use chain::{Link, link_at};
 pub use command::{CommandFound, command_at};
 pub use form::Form;
-pub use pair::{PairFound, pair_at};
-pub use test::{KeyFound, TestsFound, key_at, tests_at};
+pub use pair::{NamedPair, pair_at};
+pub use test::{Disjunction, key_at, tests_at};

@@ -4,46 +4,37 @@ ghost use Rattle.arena.specs.Node.{after_at};
 ghost use Rattle.commands.specs.PairShows.{PairAt, TwoAt, SecondAt};
 
 use arena::after;
-use shapes::{Parts, Word, list_at, symbol_at};
+use shapes::{list_at, symbol_at};
 
 // The symbol's text, and the node of the second.
 #[derive(Clone, Copy)]
-pub enum PairFound {
-    Pair {
-        size: u64,
-        offset: u64,
-        second: usize,
-    },
-    NoPair,
+pub struct NamedPair {
+    pub size: u64,
+    pub offset: u64,
+    pub second: usize,
 }
 
 // Its two parts from a node on.
-fn two(nodes: &[u64], first: usize) -> PairFound
+fn two(nodes: &[u64], first: usize) -> Option<NamedPair>
     ensures two_at { TwoAt nodes.now first result }
     ensures second_at { SecondAt (after_at nodes.now first) result }
 {
-    let word = symbol_at(nodes, first);
-    let Word::Symbol { size, offset } = word else {
-        return PairFound::NoPair;
-    };
+    let word = symbol_at(nodes, first)?;
     let second = after(nodes, first);
-    PairFound::Pair {
-        size,
-        offset,
+    Some(NamedPair {
+        size: word.size,
+        offset: word.offset,
         second,
-    }
+    })
 }
 
-pub fn pair_at(nodes: &[u64], at: usize) -> PairFound
+pub fn pair_at(nodes: &[u64], at: usize) -> Option<NamedPair>
     ensures pair_at { PairAt nodes.now at result }
     ensures second_at { SecondAt (after_at nodes.now (at + 1)) result }
 {
-    let list = list_at(nodes, at);
-    let Parts::Children(count) = list else {
-        return PairFound::NoPair;
-    };
+    let count = list_at(nodes, at)?;
     if count != 2 {
-        return PairFound::NoPair;
+        return None;
     }
     two(nodes, at + 1)
 }

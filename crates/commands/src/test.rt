@@ -2,91 +2,72 @@
 ghost use Rattle.commands.specs.TestShows.{TestsAt, ArgumentIs, KeyAt};
 
 use arena::{after, text_is};
-use shapes::{Parts, Word, list_at, symbol_at};
+use shapes::{list_at, symbol_at};
 use tables::clamp;
 
 // The tests from a node on, so many of them.
 #[derive(Clone, Copy)]
-pub enum TestsFound {
-    Tests { first: usize, count: u64 },
-    NoTests,
-}
-
-#[derive(Clone, Copy)]
-pub enum KeyFound {
-    Key(usize),
-    NoKey,
+pub struct Disjunction {
+    pub first: usize,
+    pub count: u64,
 }
 
 // (or TEST ..), or anything else.
-pub fn tests_at(nodes: &[u64], text: &[u8], at: usize) -> TestsFound
+pub fn tests_at(nodes: &[u64], text: &[u8], at: usize) -> Option<Disjunction>
     ensures { TestsAt nodes.now text.now at result }
 {
-    let list = list_at(nodes, at);
-    let Parts::Children(count) = list else {
-        return TestsFound::NoTests;
-    };
+    let count = list_at(nodes, at)?;
     if count == 0 {
-        return TestsFound::NoTests;
+        return None;
     }
     let head = at + 1;
-    let word = symbol_at(nodes, head);
-    let Word::Symbol { size, offset } = word else {
-        return TestsFound::NoTests;
-    };
-    if text_is(text, offset, size, b"or") {
+    let word = symbol_at(nodes, head)?;
+    if text_is(text, word.offset, word.size, b"or") {
         let first = after(nodes, head);
-        return TestsFound::Tests {
+        return Some(Disjunction {
             first,
             count: count - 1,
-        };
+        });
     }
-    TestsFound::NoTests
+    None
 }
 
 // Whether the argument's name, whose text is told, stands at the node; bars are bytes like others.
 fn is_argument(nodes: &[u64], text: &[u8], at: usize, offset: u64, size: u64) -> bool
     ensures { ArgumentIs nodes.now text.now at offset size result }
 {
-    let word = symbol_at(nodes, at);
-    let Word::Symbol {
-        size: long,
-        offset: off,
-    } = word
-    else {
+    let Some(word) = symbol_at(nodes, at) else {
         return false;
     };
     let range = clamp(offset, size, text.len());
-    let start = range.start;
-    let end = range.end;
-    text_is(text, off, long, &text[start..end])
+    text_is(text, word.offset, word.size, &text[range.start..range.end])
 }
 
 // The key of (= ARG v), or else of (= v ARG).
-pub fn key_at(nodes: &[u64], text: &[u8], at: usize, arg_offset: u64, arg_length: u64) -> KeyFound
+pub fn key_at(
+    nodes: &[u64],
+    text: &[u8],
+    at: usize,
+    arg_offset: u64,
+    arg_length: u64,
+) -> Option<usize>
     ensures { KeyAt nodes.now text.now at arg_offset arg_length result }
 {
-    let list = list_at(nodes, at);
-    let Parts::Children(count) = list else {
-        return KeyFound::NoKey;
-    };
+    let count = list_at(nodes, at)?;
     if count != 3 {
-        return KeyFound::NoKey;
+        return None;
     }
     let head = at + 1;
-    let word = symbol_at(nodes, head);
-    let Word::Symbol { size, offset } = word else {
-        return KeyFound::NoKey;
-    };
-    if text_is(text, offset, size, b"=") {
+    let word = symbol_at(nodes, head)?;
+    if text_is(text, word.offset, word.size, b"=") {
         let left = after(nodes, head);
         let right = after(nodes, left);
         if is_argument(nodes, text, left, arg_offset, arg_length) {
-            return KeyFound::Key(right);
+            return Some(right);
         }
         if is_argument(nodes, text, right, arg_offset, arg_length) {
-            return KeyFound::Key(left);
+            return Some(left);
         }
     }
-    KeyFound::NoKey
+    None
 }

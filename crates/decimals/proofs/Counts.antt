@@ -1,9 +1,10 @@
 -- How many digits a number has.
 -- Assumes nothing.
-use mathlib.Core.Path.{◌≡◌, sym, ap, ◌∙◌}
+use mathlib.Core.Path.{◌≡◌, sym, ap, ◌∙◌, refl, subst}
 use mathlib.Core.Bool.{Bool, cond}
 use Prim.Native.Nat.{ℕ, zero, suc, ◌+◌, ◌*◌, ◌/◌, ◌^◌, ◌<◌, ◌≤◌}
-use native.Mathlib.Nat.{div-lt_iff_lt-mul, lt_of_lt_of_le}
+use native.Mathlib.Nat.{div-lt_iff_lt-mul, lt_of_lt_of_le, pow-suc, pow-zero}
+use native.Mathlib.Numerals.{add-one}
 use native.Mathlib.Omega.{arith}
 use lib.Dec.{ltb, lit≤}
 use borrow.Author.Tests.{lt-ltb, le-ltb}
@@ -53,22 +54,20 @@ count-least n = (within 39 n).0
 pub count_most : (n : ℕ) → digit_count n ≤ 40
 count_most n = (within 39 n).1
 
--- the loop: the digits counted and those of what is left
-pub record Counting (number count rest : ℕ) : Type 0 where
-  pub small : rest < 2 ^ 64
-  pub sum : count + digit_count rest ≡ digit_count number + 1
+pub tens_some : (k : ℕ) → 0 < 10 ^ k
+tens_some zero = subst (λ (n : ℕ). 0 < n) (sym (pow-zero 10)) (omega arith)
+tens_some (suc k) = let h = tens_some k in let e = pow-suc 10 k in omega arith
 
-pub counting_start : (n : ℕ) → n < 2 ^ 64 → Counting n 1 n
-counting_start n h = record { small = h; sum = omega arith }
+-- by the greatest power of ten that is no greater
+power-within : (k f n : ℕ) → k ≤ f → 10 ^ k ≤ n → n < 10 * 10 ^ k → suc k ≡ digit_count_within f n
+unfolding digit_count_within
+power-within zero zero n h low high = refl
+power-within zero (suc f) n h low high = let e = pow-zero 10 in sym (few f n (omega arith))
+power-within (suc k) zero n h low high = absurd (omega arith)
+power-within (suc k) (suc f) n h low high =
+    let e : 10 ^ suc k ≡ 10 ^ k * 10 = pow-suc 10 k in
+    let p : 0 < 10 ^ k = tens_some k in
+    ap suc (power-within k f (n / 10) (omega arith) (omega arith) (omega arith)) ∙ sym (many f n (omega arith))
 
-module _ (number count rest : ℕ) (so : Counting number count rest) where
-  pub counting_fits : count ≤ 40
-  counting_fits = omega (arith, so.sum, count_most number, count-least rest)
-
-  pub counting_step : 10 ≤ rest → Counting number (count + 1) (rest / 10)
-  counting_step h =
-      let s = so.small in
-      record { small = omega arith; sum = omega (arith, so.sum, count-more rest so.small h) }
-
-  pub counting_end : rest < 10 → count ≡ digit_count number
-  counting_end h = omega (arith, so.sum, count-one rest h)
+pub count-power : (k n : ℕ) → k < 20 → 10 ^ k ≤ n → n < 10 * 10 ^ k → k + 1 ≡ digit_count n
+count-power k n h low high = add-one k ∙ power-within k 39 n (omega arith) low high

@@ -1,7 +1,7 @@
 -- The magnitude of a negative number by way of its successor, which fits where the negation of the least does not.
 -- Assumes nothing.
-use mathlib.Core.Path.{◌≡◌, refl, ap, sym, ◌∙◌, subst}
-use mathlib.Core.Bool.{Bool, true, false}
+use mathlib.Core.Path.{◌≡◌, ap, sym, ◌∙◌, subst}
+use mathlib.Core.Bool.{true}
 use Prim.Native.Nat.{ℕ, zero, suc, ◌+◌, ◌<◌, ◌^◌}
 use native.Mathlib.Numerals.{add-one}
 use native.Mathlib.Omega.{arith}
@@ -9,7 +9,7 @@ use lib.Dec.{T}
 use lib.IntN.{ℤ, pos, negsuc, neg_ℤ, nat_abs, ◌+ℤ◌, ◌-ℤ◌, +ℤ_one, +ℤ_idl, neg_ℤ-neg_ℤ}
 use lib.Signed.{lt_z, non_neg}
 use mir.Syntax.{w64}
-use mir.Val.{Fits, SFits, to_z, of_z}
+use mir.Val.{SFits, to_z, of_z}
 use mir.ValLaws.{to_z-of_z}
 use borrow.Author.Tests.{ltb-true}
 
@@ -69,23 +69,3 @@ negative (negsuc k) f e = record {
   small = subst (λ (z : ℤ). nat_abs z < 2 ^ 63) (sym (back_is k f.sfits)) f.sfits;
   one_more = ap (λ (z : ℤ). nat_abs z + 1) (back_is k f.sfits) ∙ add-one k;
 }
-
--- and of one that is not
-pub record Positive (n : ℤ) : Type 0 where
-  pub positive : T (non_neg (back n))
-  pub small : Fits w64 (nat_abs (back n))
-  pub same : nat_abs (back n) ≡ nat_abs n
-
-positive-at : (n : ℤ) → SFits w64 n → (b : Bool) → lt_z n (pos 0) ≡ b → b ≡ false → (non_neg n ≡ true) × (nat_abs n < 2 ^ 64)
-positive-at (pos k) f b e g = (refl, let h = f.sfits in omega arith)
-positive-at (negsuc k) f b e g = let z : true ≡ false = e ∙ g in absurd (subst (λ (t : Bool). T t) z tt)
-
-pub nonnegative : (n : ℤ) → SFits w64 n → lt_z (back n) (pos 0) ≡ false → Positive n
-nonnegative n f e =
-    let q : back n ≡ n = to_z-of_z w64 n f in
-    let p = positive-at n f (lt_z n (pos 0)) refl (sym (ap (λ (z : ℤ). lt_z z (pos 0)) q) ∙ e) in
-    record {
-      positive = subst (λ (t : Bool). T t) (sym (ap (λ (z : ℤ). non_neg z) q ∙ p.0)) tt;
-      small = record { fits = subst (λ (z : ℤ). nat_abs z < 2 ^ 64) (sym q) p.1 };
-      same = ap (λ (z : ℤ). nat_abs z) q;
-    }

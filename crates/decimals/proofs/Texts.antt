@@ -1,5 +1,6 @@
 -- The texts of a number and of a signed number, as the calls leave them.
 -- Assumes nothing.
+use Rattle.std.proofs.Common.{Err, Ok}
 use mathlib.Core.Path.{◌≡◌, sym, ap, ap₂, ◌∙◌, subst}
 use mathlib.Core.Bool.{Bool, true, false}
 use mathlib.Core.List.{List, [], ◌∷◌, ◌++◌}
@@ -15,7 +16,6 @@ use mir.Val.{SFits}
 use mir.ValLaws.{to_z-of_z}
 use borrow.Author.Tests.{ltb-true}
 use Rattle.refusals.specs.declared.Refusal.TheVariants.{OutRoom}
-use Rattle.lent.specs.declared.Written.TheVariants.{Length, Refused}
 use Rattle.lent.specs.Left.{onto, writing, Leaves}
 use Rattle.lent.proofs.Lefts.{leaves-text, leaves-short}
 use Rattle.decimals.specs.Decimal.{last_digits, digit_count, decimal, signed_decimal}
@@ -37,10 +37,10 @@ negative-holds n k (b ∷ bs) is h =
     ap₂ (λ (x : ℕ) (y : List ℕ). 45 ∷ (last_digits x n ++ y)) i (ap (λ (m : ℕ). drop m (45 ∷ bs)) (add-one k) ∙ ap (λ (m : ℕ). drop m bs) j)
 
 module _ (n k : ℕ) (d : List ℕ) (is : k ≡ digit_count n) where
-  pub natural-short : length d < k → Leaves (writing OutRoom (decimal n) d) (Refused (OutRoom k)) d
+  pub natural-short : length d < k → Leaves (writing OutRoom (decimal n) d) (Err (OutRoom k)) d
   natural-short h = let l = length-decimal n in leaves-short OutRoom (decimal n) d k (omega arith) (omega arith)
 
-  pub natural-put : (e : List ℕ) → k ≤ length d → e ≡ take 0 d ++ (last_digits (k - 0) n ++ drop k d) → Leaves (writing OutRoom (decimal n) d) (Length k) e
+  pub natural-put : (e : List ℕ) → k ≤ length d → e ≡ take 0 d ++ (last_digits (k - 0) n ++ drop k d) → Leaves (writing OutRoom (decimal n) d) (Ok k) e
   unfolding decimal onto
   natural-put e h q =
       let l = length-decimal n in
@@ -52,10 +52,10 @@ module _ (n k : ℕ) (d : List ℕ) (is : k ≡ digit_count n) where
   pub negative_fits : k + 1 ≤ 41
   negative_fits = omega (arith, count_most n)
 
-  pub negative-short : length d < k + 1 → Leaves (writing OutRoom (45 ∷ decimal n) d) (Refused (OutRoom (k + 1))) d
+  pub negative-short : length d < k + 1 → Leaves (writing OutRoom (45 ∷ decimal n) d) (Err (OutRoom (k + 1))) d
   negative-short h = let l = length-decimal n in leaves-short OutRoom (45 ∷ decimal n) d (k + 1) (omega arith) (omega arith)
 
-  pub negative-put : (e : List ℕ) → k + 1 ≤ length d → e ≡ take 1 (set d 0 45) ++ (last_digits (k + 1 - 1) n ++ drop (k + 1) (set d 0 45)) → Leaves (writing OutRoom (45 ∷ decimal n) d) (Length (k + 1)) e
+  pub negative-put : (e : List ℕ) → k + 1 ≤ length d → e ≡ take 1 (set d 0 45) ++ (last_digits (k + 1 - 1) n ++ drop (k + 1) (set d 0 45)) → Leaves (writing OutRoom (45 ∷ decimal n) d) (Ok (k + 1)) e
   negative-put e h q =
       let l = length-decimal n in
       leaves-text OutRoom (45 ∷ decimal n) d (k + 1) e (omega arith) (omega arith) (q ∙ negative-holds n k d is h)

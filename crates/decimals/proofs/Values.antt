@@ -12,7 +12,7 @@ use Rattle.words.specs.Radix.{worth}
 use Rattle.words.specs.Run.{from, number}
 use Rattle.words.proofs.Worths.{a-digit}
 use Rattle.decimals.specs.Decimal.{last_digits, digit_count_within, digit_count, decimal}
-use Rattle.decimals.proofs.Counts.{bound, few, many}
+use Rattle.decimals.proofs.Counts.{bound, few, many, tens_some}
 
 from_last : (base n b : ℕ) (s : List ℕ) → from base n (s ++ (b ∷ [])) ≡ from base n s * base + worth b
 unfolding from
@@ -21,10 +21,6 @@ from_last base n b (c ∷ s) = from_last base (n * base + worth c) b s
 
 digit-is : (d : ℕ) → d < 10 → worth (48 + d) ≡ d
 digit-is d h = let e : 48 + d - 48 ≡ d = omega arith in sym (a-digit (48 + d) (omega arith) (omega arith)) ∙ e
-
-tens_some : (k : ℕ) → 0 < 10 ^ k
-tens_some zero = subst (λ (n : ℕ). 0 < n) (sym (pow-zero 10)) (omega arith)
-tens_some (suc k) = let h = tens_some k in let e = pow-suc 10 k in omega arith
 
 digits_number : (k n : ℕ) → number 10 (last_digits k n) ≡ n % 10 ^ k
 unfolding last_digits from

@@ -8,6 +8,5 @@ mod value;
 mod variable;
 
 pub use function::check_function;
-pub use measure::Measured;
 pub use value::check_value;
 pub use variable::check_variable;

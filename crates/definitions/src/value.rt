@@ -1,8 +1,9 @@
 // A value that has to be of a row's sort.
 ghost use Rattle.definitions.specs.Measure.{ValueAt};
 
-use crate::measure::{Measured, value_of};
-use literals::{Expected, decode_literal};
+use crate::measure::value_of;
+use literals::decode_literal;
+use refusals::Refusal;
 use sorts::LEVELS;
 
 // The value expects the row; 16 where its sort is another.
@@ -15,10 +16,10 @@ pub fn check_value(
     text: &[u8],
     row: usize,
     value: usize,
-) -> Measured
+) -> Result<usize, Refusal>
     ensures { ValueAt sorts.now fields.now members.now names.now nodes.now text.now row value result }
 {
-    let expected = Expected::Row(row);
+    let expected = Some(row);
     let literal = decode_literal(
         sorts, fields, members, names, nodes, text, value, expected, LEVELS,
     );

@@ -2,24 +2,23 @@
 ghost use Rattle.std.specs.Prelude.{◌≡◌};
 ghost use Rattle.definitions.specs.Measure.{declared_as, VariableAt};
 
-use crate::measure::Measured;
 use crate::value::check_value;
 use refusals::Refusal;
-use sorts::{LEVELS, Sorted, read_sort};
+use sorts::{LEVELS, read_sort};
 
 // A value of the row, which the table has to have too.
-fn declared_as(measured: Measured, row: usize, declared: usize) -> Measured
+fn declared_as(
+    measured: Result<usize, Refusal>,
+    row: usize,
+    declared: usize,
+) -> Result<usize, Refusal>
     ensures { result ≡ declared_as measured row declared }
 {
-    match measured {
-        Measured::Need(need) => {
-            if declared != row {
-                return Measured::Refused(Refusal::UnmatchedType);
-            }
-            Measured::Need(need)
-        }
-        Measured::Refused(refusal) => Measured::Refused(refusal),
+    let need = measured?;
+    if declared != row {
+        return Err(Refusal::UnmatchedType);
     }
+    Ok(need)
 }
 
 // The sort is read first, and the value expects it; 16 where the value's sort or the table's is another.
@@ -33,15 +32,10 @@ pub fn check_variable(
     declared: usize,
     sort: usize,
     value: usize,
-) -> Measured
+) -> Result<usize, Refusal>
     ensures { VariableAt sorts.now fields.now members.now names.now nodes.now text.now declared sort value result }
 {
-    let sorted = read_sort(sorts, names, nodes, text, sort, LEVELS);
-    match sorted {
-        Sorted::Row(row) => {
-            let measured = check_value(sorts, fields, members, names, nodes, text, row, value);
-            declared_as(measured, row, declared)
-        }
-        Sorted::Refused(refusal) => Measured::Refused(refusal),
-    }
+    let row = read_sort(sorts, names, nodes, text, sort, LEVELS)?;
+    let measured = check_value(sorts, fields, members, names, nodes, text, row, value);
+    declared_as(measured, row, declared)
 }

@@ -1,9 +1,9 @@
 -- A body means, at an argument, what the first of its arms gives that tests it.
 -- Assumes nothing.
+use Rattle.std.proofs.Common.{None, Option, Some, Ok}
 use mathlib.Core.Path.{◌≡◌, refl, ap, sym, ◌∙◌, subst}
 use mathlib.Core.Bool.{Bool, true, false, cond, ◌||◌}
 use mathlib.Core.List.{List, [], ◌∷◌}
-use mathlib.Core.Option.{Option, none, some}
 use Prim.Native.Nat.{ℕ}
 use Rattle.ground.specs.Bytes.{bytes}
 use Rattle.refusals.specs.declared.Refusal.TheVariants.{UnmatchedType, UnexpectedForm}
@@ -12,7 +12,6 @@ use Rattle.arena.specs.Tree.{Tree, Trees, symbol, app, nil, cons}
 use Rattle.arena.proofs.Texts.{same_refl}
 use Rattle.order.specs.Every.{Every}
 use Rattle.tables.specs.Sort.{Tables}
-use Rattle.sorts.specs.Result.{ok}
 use Rattle.sorts.specs.Sort.{levels}
 use Rattle.values.specs.Normal.{normal}
 use Rattle.values.specs.Value.{Value, v_bool}
@@ -29,35 +28,35 @@ use Rattle.values.proofs.Decisions.{turned}
 use Rattle.demand.proofs.Looks.{first_hit, Give}
 
 -- L: a literal that is read means its value
-module _ (T : Tables) (x : List ℕ) (v : Value) (L : (t : Tree) (e : Option ℕ) (l : Lit) → read T levels e t ≡ ok l → meaning t T x v e ≡ some (normal l.value)) where
+module _ (T : Tables) (x : List ℕ) (v : Value) (L : (t : Tree) (e : Option ℕ) (l : Lit) → read T levels e t ≡ Ok l → meaning t T x v e ≡ Some (normal l.value)) where
   abbrev tested : Lit → Bool
   tested m = decided (equal (normal m.value) v)
 
-  argument-means : meaning (symbol x) T x v none ≡ some v
+  argument-means : meaning (symbol x) T x v None ≡ Some v
   unfolding meaning_with
   argument-means = rw (same_refl (unbarred x)) refl
 
-  equal-at : (a b : Tree) → meaning (app (cons (symbol (bytes "=")) (cons a (cons b nil)))) T x v none ≡ both (λ y z. some (equals y z)) (meaning a T x v none) (meaning b T x v none)
+  equal-at : (a b : Tree) → meaning (app (cons (symbol (bytes "=")) (cons a (cons b nil)))) T x v None ≡ both (λ y z. Some (equals y z)) (meaning a T x v None) (meaning b T x v None)
   unfolding meaning_with same_text
   equal-at a b = refl
 
-  test_means : (test k : Tree) (m : Lit) → TestView x test k → read T levels none k ≡ ok m → meaning test T x v none ≡ some (v_bool (tested m))
+  test_means : (test k : Tree) (m : Lit) → TestView x test k → read T levels None k ≡ Ok m → meaning test T x v None ≡ Some (v_bool (tested m))
   test_means _ k m t-left r =
-      equal-at (symbol x) k ∙ rw (argument-means, L k none m r) (ap (λ (t : Bool). some (v_bool t)) (turned v (normal m.value)))
-  test_means _ k m t-right r = equal-at k (symbol x) ∙ rw (argument-means, L k none m r) refl
+      equal-at (symbol x) k ∙ rw (argument-means, L k None m r) (ap (λ (t : Bool). Some (v_bool t)) (turned v (normal m.value)))
+  test_means _ k m t-right r = equal-at k (symbol x) ∙ rw (argument-means, L k None m r) refl
 
   -- a list of tests
   or_false : (h : Bool) → h ≡ (h || false)
   or_false true = refl
   or_false false = refl
 
-  any-more : (m : Meant) (ms : List Meant) (h k : Bool) → m none ≡ some (v_bool h) → any_of ms ≡ some (v_bool k) → any_of (m ∷ ms) ≡ some (v_bool (h || k))
-  any-more m [] h k p q = let z : false ≡ k = cc in p ∙ ap (λ (b : Bool). some (v_bool b)) (or_false h ∙ ap (λ (b : Bool). h || b) z)
-  any-more m (n ∷ ms) h k p q = ap (λ (o : Option Value). both either o (any_of (n ∷ ms))) p ∙ ap (λ (o : Option Value). both either (some (v_bool h)) o) q
+  any-more : (m : Meant) (ms : List Meant) (h k : Bool) → m None ≡ Some (v_bool h) → any_of ms ≡ Some (v_bool k) → any_of (m ∷ ms) ≡ Some (v_bool (h || k))
+  any-more m [] h k p q = let z : false ≡ k = cc in p ∙ ap (λ (b : Bool). Some (v_bool b)) (or_false h ∙ ap (λ (b : Bool). h || b) z)
+  any-more m (n ∷ ms) h k p q = ap (λ (o : Option Value). both either o (any_of (n ∷ ms))) p ∙ ap (λ (o : Option Value). both either (Some (v_bool h)) o) q
 
   pub record AnyHit (us : Trees) (t : Table) : Type 0 where
     pub hit : Bool
-    pub meant : any_of (meanings us T x v) ≡ some (v_bool hit)
+    pub meant : any_of (meanings us T x v) ≡ Some (v_bool hit)
     pub given : first_hit t.arms (normal t.«else») v ≡ v_bool hit
 
   no_hit : AnyHit nil (table_of [] (v_bool false))
@@ -68,7 +67,7 @@ module _ (T : Tables) (x : List ℕ) (v : Value) (L : (t : Tree) (e : Option ℕ
   hit-more true k = refl
   hit-more false k = refl
 
-  one_hit : (test : Tree) (us : Trees) (m : Lit) (t : Table) → meaning test T x v none ≡ some (v_bool (tested m)) → AnyHit us t →
+  one_hit : (test : Tree) (us : Trees) (m : Lit) (t : Table) → meaning test T x v None ≡ Some (v_bool (tested m)) → AnyHit us t →
       AnyHit (cons test us) (push (arm_of m.value (v_bool true)) t)
   unfolding meaning_with normal
   one_hit test us m t e h =
@@ -79,7 +78,7 @@ module _ (T : Tables) (x : List ℕ) (v : Value) (L : (t : Tree) (e : Option ℕ
       }
 
   module _ (argument result : ℕ) where
-    pub tests_mean : (us : Trees) (t : Table) → read_tests T x argument result us ≡ ok t → AnyHit us t
+    pub tests_mean : (us : Trees) (t : Table) → read_tests T x argument result us ≡ Ok t → AnyHit us t
     unfolding read_tests
     tests_mean nil t e = subst (AnyHit nil) (ok_same e) no_hit
     tests_mean (cons test us) t e =
@@ -94,23 +93,23 @@ module _ (T : Tables) (x : List ℕ) (v : Value) (L : (t : Tree) (e : Option ℕ
 
     -- an ite chain
     abbrev Meets : Tree → Chain → Type 0
-    Meets t c = (table : Table) → read_chain T x argument result c ≡ ok table → meaning t T x v (some result) ≡ some (first_hit table.arms (normal table.«else») v)
+    Meets t c = (table : Table) → read_chain T x argument result c ≡ Ok table → meaning t T x v (Some result) ≡ Some (first_hit table.arms (normal table.«else») v)
 
     abbrev Found : Tree → Table → Type 0
-    Found t table = meaning t T x v (some result) ≡ some (first_hit table.arms (normal table.«else») v)
+    Found t table = meaning t T x v (Some result) ≡ Some (first_hit table.arms (normal table.«else») v)
 
     end-meets : (t : Tree) → Meets t (default t)
     unfolding read_chain
     end-meets t table e =
         let w = went _ _ table e in
         let p = passed _ UnmatchedType _ table w.next in
-        subst (Found t) (ok_same p.1) (L t (some result) w.got w.first)
+        subst (Found t) (ok_same p.1) (L t (Some result) w.got w.first)
 
-    ite-at : (test value rest : Tree) → meaning (ite test value rest) T x v (some result) ≡ choice (meaning test T x v none) (meaning value T x v (some result)) (meaning rest T x v (some result))
+    ite-at : (test value rest : Tree) → meaning (ite test value rest) T x v (Some result) ≡ choice (meaning test T x v None) (meaning value T x v (Some result)) (meaning rest T x v (Some result))
     unfolding meaning_with same_text
     ite-at test value rest = refl
 
-    chosen-hit : (h : Bool) (y z : Value) → choice (some (v_bool h)) (some y) (some z) ≡ some (cond h y z)
+    chosen-hit : (h : Bool) (y z : Value) → choice (Some (v_bool h)) (Some y) (Some z) ≡ Some (cond h y z)
     chosen-hit h y z = refl
 
     arm-meets : (test value rest : Tree) → Meets rest (chain rest) → Meets (ite test value rest) (arm test value (chain rest))
@@ -126,7 +125,7 @@ module _ (T : Tables) (x : List ℕ) (v : Value) (L : (t : Tree) (e : Option ℕ
         (ite-at test value rest
         ∙ rw (
           test_means test k.got m.got (key-view x test k.got (was-found UnexpectedForm (key x test) k.got k.first)) m.first,
-          L value (some result) l.got l.first,
+          L value (Some result) l.got l.first,
           ih z.got z.first,
         ) (chosen-hit (tested m.got) (normal l.got.value) (first_hit z.got.arms (normal z.got.«else») v)))
 
@@ -137,17 +136,17 @@ module _ (T : Tables) (x : List ℕ) (v : Value) (L : (t : Tree) (e : Option ℕ
     unfolding meaning_with same_text
     or_at us e = refl
 
-    pub body-first : (body : Tree) (table : Table) → read_body T x argument result body ≡ ok table → Found body table
+    pub body-first : (body : Tree) (table : Table) → read_body T x argument result body ≡ Ok table → Found body table
     body-first body table e = go (tests body) refl e
       where
-        go : (o : Option Trees) → tests body ≡ o → body_by T x argument result body o ≡ ok table → Found body table
-        go none h m = chain-means body table m
-        go (some us) h m =
+        go : (o : Option Trees) → tests body ≡ o → body_by T x argument result body o ≡ Ok table → Found body table
+        go None h m = chain-means body table m
+        go (Some us) h m =
             let s = tests_mean us table (passed _ UnmatchedType _ table m).1 in
-            ap (λ (t : Tree). meaning t T x v (some result)) (tests-view body us h) ∙ or_at us (some result) ∙ s.meant ∙ ap some (sym s.given)
+            ap (λ (t : Tree). meaning t T x v (Some result)) (tests-view body us h) ∙ or_at us (Some result) ∙ s.meant ∙ ap Some (sym s.given)
 
 -- the arms of a list of tests all give true
-pub tests_give : (T : Tables) (x : List ℕ) (argument result : ℕ) (us : Trees) (t : Table) → read_tests T x argument result us ≡ ok t → Give (v_bool true) t.arms
+pub tests_give : (T : Tables) (x : List ℕ) (argument result : ℕ) (us : Trees) (t : Table) → read_tests T x argument result us ≡ Ok t → Give (v_bool true) t.arms
 unfolding read_tests normal
 tests_give T x argument result nil t e = subst (λ (u : Table). Give (v_bool true) u.arms) (ok_same e) Every.none
 tests_give T x argument result (cons test us) t e =

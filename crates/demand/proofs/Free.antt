@@ -1,10 +1,10 @@
 -- Where the argument's name is apart, no literal and no sort that is read mentions it.
 -- Assumes nothing.
+use Rattle.std.proofs.Common.{None, Option, Some, Ok}
 use mathlib.Core.Path.{◌≡◌, refl, ap, sym, ◌∙◌, subst}
 use mathlib.Core.Bool.{Bool, true, false, not, ◌&&◌, ◌||◌, true≢false}
 use mathlib.Core.List.{List, [], ◌∷◌}
 use mathlib.Core.Logic.{inl, inr}
-use mathlib.Core.Option.{Option, none, some}
 use Prim.Native.Nat.{ℕ, zero, suc}
 use Rattle.ground.specs.Bytes.{bytes}
 use Rattle.ground.specs.Lists.{any, at}
@@ -22,7 +22,6 @@ use Rattle.shapes.specs.declared.shape.BinaryOp.{BinaryOp}
 use Rattle.shapes.specs.declared.shape.UnaryOp.{UnaryOp}
 use Rattle.shapes.specs.Shape.{is}
 use Rattle.shapes.specs.SortShape.{SortShape, sort_shape}
-use Rattle.sorts.specs.Result.{ok}
 use Rattle.sorts.specs.Sort.{sort_word, sort_of, read_sort}
 use Rattle.values.specs.Value.{Value, Values}
 use Rattle.means.specs.Literal.{Lit, read_with}
@@ -46,7 +45,7 @@ none_of false true c e = absurd (true≢false (sym e))
 none_of false false true e = absurd (true≢false (sym e))
 none_of false false false e = (refl, refl, refl)
 
-any_none : {A : Type 0} (test : A → Bool) (xs : List A) (i : ℕ) (y : A) → any test xs ≡ false → at xs i ≡ some y → test y ≡ false
+any_none : {A : Type 0} (test : A → Bool) (xs : List A) (i : ℕ) (y : A) → any test xs ≡ false → at xs i ≡ Some y → test y ≡ false
 any_none test xs i y n e = by_test (test y) (λ h. absurd (true≢false (sym (any_at test xs i y e h) ∙ n))) (λ h. h)
 
 -- what is in a list of which none passes does not pass
@@ -67,14 +66,14 @@ module _ (T : Tables) (x : List ℕ) (apart-name : apart T x ≡ true) where
   unfolding kept
   kept-apart w e = not-among (λ u. same_name u x) w kept_words e parts.0
 
-  sort-apart : (row : ℕ) (s : Sort) → at T.sorts row ≡ some s → names_sort x s ≡ false
+  sort-apart : (row : ℕ) (s : Sort) → at T.sorts row ≡ Some s → names_sort x s ≡ false
   sort-apart row s e = any_none (names_sort x) T.sorts row s parts.1 e
 
   named-apart : (name : List ℕ) (s : Sort) → IsNamed name s → names_sort x s ≡ false → same_name name x ≡ false
   named-apart name s (inl e) h = sym (ap (names_sort x) e) ∙ h
   named-apart name s (inr (fs, e)) h = sym (ap (names_sort x) e) ∙ h
 
-  member_apart : (s : List ℕ) (i : ℕ) → member_row T s ≡ some i → same_name s x ≡ false
+  member_apart : (s : List ℕ) (i : ℕ) → member_row T s ≡ Some i → same_name s x ≡ false
   member_apart s i e =
       let f = member-found T i s e in
       subst (λ (u : List ℕ). same_name u x ≡ false) f.2 (any_none (λ (m : Member). same_name m.name x) T.members i f.0 parts.2 f.1)
@@ -121,7 +120,7 @@ module _ (T : Tables) (x : List ℕ) (apart-name : apart T x ≡ true) where
   is-apart : (s w : List ℕ) → kept w ≡ true → same_text s w ≡ true → same_name s x ≡ false
   is-apart s w k h = subst (λ (u : List ℕ). same_name u x ≡ false) (sym (same-equal s w h)) (kept-apart w k)
 
-  word-apart : (s : List ℕ) (row : ℕ) → sort_word T s ≡ ok row → same_name s x ≡ false
+  word-apart : (s : List ℕ) (row : ℕ) → sort_word T s ≡ Ok row → same_name s x ≡ false
   unfolding kept kept_words any same_text
   word-apart s row e =
       by_test (is s "Bool") (λ h. is-apart s (bytes "Bool") refl h) (λ h.
@@ -132,8 +131,8 @@ module _ (T : Tables) (x : List ℕ) (apart-name : apart T x ≡ true) where
       let f = named-is T row s (was-found UnknownType (named_sort T s) row (rw (h, k, l, m, n) at e)) in
       named-apart s f.0 f.2 (sort-apart row f.0 f.1))))))
 
-  free_shape : (a : ℕ) → ((t : Tree) (row : ℕ) → read_sort T a t ≡ ok row → mentions t x ≡ false) →
-      (t : Tree) (s : SortShape) → SortView t s → (row : ℕ) → sort_of T (λ u. read_sort T a u) s ≡ ok row → mentions t x ≡ false
+  free_shape : (a : ℕ) → ((t : Tree) (row : ℕ) → read_sort T a t ≡ Ok row → mentions t x ≡ false) →
+      (t : Tree) (s : SortShape) → SortView t s → (row : ℕ) → sort_of T (λ u. read_sort T a u) s ≡ Ok row → mentions t x ≡ false
   unfolding kept kept_words any same_text
   free_shape a below _ _ (s_word {s = s}) row e = free_symbol s (word-apart s row e)
   free_shape a below _ _ s_width row e = free_index _
@@ -141,7 +140,7 @@ module _ (T : Tables) (x : List ℕ) (apart-name : apart T x ≡ true) where
   free_shape a below _ _ (s_set {t = t}) row e = let w = went _ _ row e in free_one _ t (free_word (bytes "Set") refl) (below t w.got w.first)
   free_shape a below _ _ s_none row e = refuses e
 
-  free_sort : (a : ℕ) (t : Tree) (row : ℕ) → read_sort T a t ≡ ok row → mentions t x ≡ false
+  free_sort : (a : ℕ) (t : Tree) (row : ℕ) → read_sort T a t ≡ Ok row → mentions t x ≡ false
   unfolding read_sort
   free_sort zero t row e = refuses e
   free_sort (suc a) t row e = free_shape a (λ u q. free_sort a u q) t (sort_shape t) (sort-view t) row e
@@ -165,10 +164,10 @@ module _ (T : Tables) (x : List ℕ) (apart-name : apart T x ≡ true) where
   free_binary BinaryOp.Bvsaddo = free_word (bytes "bvsaddo") refl
   free_binary BinaryOp.Bvsmulo = free_word (bytes "bvsmulo") refl
 
-  module _ (worked : Bool) (a : ℕ) (below : (e : Option ℕ) (t : Tree) (l : Lit) → read_with T worked a e t ≡ ok l → mentions t x ≡ false) where
+  module _ (worked : Bool) (a : ℕ) (below : (e : Option ℕ) (t : Tree) (l : Lit) → read_with T worked a e t ≡ Ok l → mentions t x ≡ false) where
     free_fields : (fs : List ℕ) (us : Trees) (vs : Values) → FieldReadings worked T a fs us vs → mentions_any us x ≡ false
     free_fields _ _ _ f_nil = free_nil
-    free_fields _ _ _ (f_cons {f = f} {fs = fs} {u = u} {us = us} {vs = vs} l e k h) = free_cons u us (below (some f) u l e) (free_fields fs us vs h)
+    free_fields _ _ _ (f_cons {f = f} {fs = fs} {u = u} {us = us} {vs = vs} l e k h) = free_cons u us (below (Some f) u l e) (free_fields fs us vs h)
 
     free_reading : (e : Option ℕ) (t : Tree) (row : ℕ) (v : Value) → Reading worked T a e t row v → mentions t x ≡ false
     unfolding kept kept_words any same_text
@@ -184,17 +183,17 @@ module _ (T : Tables) (x : List ℕ) (apart-name : apart T x ≡ true) where
     free_reading e _ _ _ (r-empty {t = t} {row = row} q h k) = free_two _ _ t (free_word (bytes "as") refl) (free_word (bytes "set.empty") refl) (free_sort a t row h)
     free_reading e _ _ _ (r-singleton {v = v} o l h m k) = free_one _ v (free_word (bytes "set.singleton") refl) (below o v l m)
     free_reading e _ _ _ (r-union {v = v} {w = w} l m f g h y z) = free_two _ v w (free_word (bytes "set.union") refl) (below e v l f) (below e w m g)
-    free_reading e _ _ _ (r-unary {v = v} op l h m y k) = free_one _ v (free_unary op) (below none v l m)
-    free_reading e _ _ _ (r-binary {v = v} {w = w} op l m h f g y k) = free_two _ v w (free_binary op) (below none v l f) (below none w m g)
+    free_reading e _ _ _ (r-unary {v = v} op l h m y k) = free_one _ v (free_unary op) (below None v l m)
+    free_reading e _ _ _ (r-binary {v = v} {w = w} op l m h f g y k) = free_two _ v w (free_binary op) (below None v l f) (below None w m g)
     free_reading e _ _ _ (r-ite {c = c} {v = v} {w = w} k l m h f g y z q) =
-        free_app _ (free_cons _ _ (free_word (bytes "ite") refl) (free_cons _ _ (below none c k f) (free_cons _ _ (below e v l g) (free_cons _ _ (below e w m y) free_nil))))
+        free_app _ (free_cons _ _ (free_word (bytes "ite") refl) (free_cons _ _ (below None c k f) (free_cons _ _ (below e v l g) (free_cons _ _ (below e w m y) free_nil))))
     free_reading e _ _ _ (r-extension {x = y} {n = n} k) = free_one _ _ (free_ext y) (free_bits 64 n)
     free_reading e _ _ _ (r-indexed h f k) = free_index _
     free_reading e _ _ _ (r-entity {f = f} {s = s} {row = row} h k) = free_one f _ (free_symbol f (sort-apart row (entity_of f) k)) (free_string s)
     free_reading e _ _ _ (r_record {f = f} {us = us} {row = row} {vs = vs} fs h k g) =
         free_app _ (free_cons _ _ (free_symbol f (sort-apart row (record_of f fs) k)) (free_fields fs us vs g))
 
-  pub free_read : (worked : Bool) (allow : ℕ) (e : Option ℕ) (t : Tree) (l : Lit) → read_with T worked allow e t ≡ ok l → mentions t x ≡ false
+  pub free_read : (worked : Bool) (allow : ℕ) (e : Option ℕ) (t : Tree) (l : Lit) → read_with T worked allow e t ≡ Ok l → mentions t x ≡ false
   unfolding read_with
   free_read worked zero e t l m = refuses m
   free_read worked (suc a) e t l m = free_reading worked a (λ o u k h. free_read worked a o u k h) e t l.row l.value (reading T worked a e t l m)

@@ -1,9 +1,9 @@
 -- The lines of a table's names tell which of them stand there, and with what.
 -- Assumes nothing.
+use Rattle.std.proofs.Common.{None, Option, Some}
 use mathlib.Core.Path.{◌≡◌, refl, ap, ap₂, sym, ◌∙◌, subst}
 use mathlib.Core.Bool.{Bool, true, false, not, ◌&&◌, true≢false}
 use mathlib.Core.List.{List, [], ◌∷◌, ◌++◌, append_assoc, append_cancel_left, head-eq_of_cons-eq, tail-eq_of_cons-eq}
-use mathlib.Core.Option.{Option, none, some}
 use Prim.Native.Nat.{ℕ, zero, suc, ◌+◌}
 use native.Mathlib.Nat.{add-zero, zero-add}
 use native.Mathlib.Omega.{arith}
@@ -73,10 +73,10 @@ module _ {A X : Type 0} where
   -- what each has fits its row
   abbrev EachFits : (A → X → Type 0) → (ℕ → Option X) → ℕ → List A → Type 0
   EachFits Fits get k [] = Unit {0}
-  EachFits Fits get k (a ∷ rows) = ((x : X) → get k ≡ some x → Fits a x) × EachFits Fits get (suc k) rows
+  EachFits Fits get k (a ∷ rows) = ((x : X) → get k ≡ Some x → Fits a x) × EachFits Fits get (suc k) rows
 
   each_fits : (Fits : A → X → Type 0) (get : ℕ → Option X) (k : ℕ) (rows : List A) →
-      ((j : ℕ) (a : A) (x : X) → at rows j ≡ some a → get (k + j) ≡ some x → Fits a x) → EachFits Fits get k rows
+      ((j : ℕ) (a : A) (x : X) → at rows j ≡ Some a → get (k + j) ≡ Some x → Fits a x) → EachFits Fits get k rows
   unfolding at
   each_fits Fits get k [] f = tt
   each_fits Fits get k (a ∷ rows) f = (
@@ -88,7 +88,7 @@ module _ {A X : Type 0} where
   EachSame get get' k [] = Unit {0}
   EachSame get get' k (a ∷ rows) = (get k ≡ get' k) × EachSame get get' (suc k) rows
 
-  same_at : (get get' : ℕ → Option X) (k : ℕ) (rows : List A) (j : ℕ) (a : A) → EachSame get get' k rows → at rows j ≡ some a → get (k + j) ≡ get' (k + j)
+  same_at : (get get' : ℕ → Option X) (k : ℕ) (rows : List A) (j : ℕ) (a : A) → EachSame get get' k rows → at rows j ≡ Some a → get (k + j) ≡ get' (k + j)
   unfolding at
   same_at get get' k [] j a h e = absurd (none-some e)
   same_at get get' k (b ∷ rows) zero a h e = rw (add-zero k) h.0
@@ -98,14 +98,14 @@ module _ {A X : Type 0} where
 
 -- c and the tag begin the lines of each row that has something; more is what follows its first line, and what follows that
 module _ {A X : Type 0} (c : ℕ) (tag : List ℕ) (name : A → List ℕ) (lines : A → Option X → List ℕ) (more : A → X → List ℕ → List ℕ)
-    (no_lines : (a : A) → lines a none ≡ []) (some-lines : (a : A) (x : X) (z : List ℕ) → lines a (some x) ++ z ≡ c ∷ (tag ++ (name a ++ (10 ∷ more a x z)))) where
+    (no_lines : (a : A) → lines a None ≡ []) (some-lines : (a : A) (x : X) (z : List ℕ) → lines a (Some x) ++ z ≡ c ∷ (tag ++ (name a ++ (10 ∷ more a x z)))) where
   pub begins : (get : ℕ → Option X) (k : ℕ) (rows : List A) → Begins c (lines_from lines get k rows)
   begins get k [] = tt
   begins get k (a ∷ rows) = go (get k) (begins get (suc k) rows)
     where
       go : (o : Option X) → Begins c (lines_from lines get (suc k) rows) → Begins c (lines a o ++ lines_from lines get (suc k) rows)
-      go none h = subst (λ (l : List ℕ). Begins c (l ++ lines_from lines get (suc k) rows)) (sym (no_lines a)) h
-      go (some x) h = subst (Begins c) (sym (some-lines a x (lines_from lines get (suc k) rows))) refl
+      go None h = subst (λ (l : List ℕ). Begins c (l ++ lines_from lines get (suc k) rows)) (sym (no_lines a)) h
+      go (Some x) h = subst (Begins c) (sym (some-lines a x (lines_from lines get (suc k) rows))) refl
 
   abbrev Apart : List ℕ → List A → Type 0
   Apart s rows = Every (λ a. name a ≡ s → ⊥) rows
@@ -122,8 +122,8 @@ module _ {A X : Type 0} (c : ℕ) (tag : List ℕ) (name : A → List ℕ) (line
       where
         go : (o : Option X) → lines a o ++ (lines_from lines get (suc k) rows ++ z) ≡ c ∷ (tag ++ (s ++ (10 ∷ rest))) →
             (lines_from lines get (suc k) rows ++ z ≡ c ∷ (tag ++ (s ++ (10 ∷ rest))) → ⊥) → ⊥
-        go none q f = f (sym (ap (λ (l : List ℕ). l ++ (lines_from lines get (suc k) rows ++ z)) (no_lines a)) ∙ q)
-        go (some x) q f =
+        go None q f = f (sym (ap (λ (l : List ℕ). l ++ (lines_from lines get (suc k) rows ++ z)) (no_lines a)) ∙ q)
+        go (Some x) q f =
             let m = more a x (lines_from lines get (suc k) rows ++ z) in
             let t = tail-eq_of_cons-eq (sym (some-lines a x (lines_from lines get (suc k) rows ++ z)) ∙ q) in
             n (split-line (name a) s m rest l whole (append_cancel_left tag (name a ++ (10 ∷ m)) (s ++ (10 ∷ rest)) t)).0
@@ -146,19 +146,19 @@ module _ {A X : Type 0} (c : ℕ) (tag : List ℕ) (name : A → List ℕ) (line
         abbrev after' : List ℕ
         after' = lines_from lines get' (suc k) rows ++ z'
 
-        one-row : (o o' : Option X) → get k ≡ o → get' k ≡ o' → ((x : X) → o ≡ some x → Fits a x) → ((x : X) → o' ≡ some x → Fits a x) →
+        one-row : (o o' : Option X) → get k ≡ o → get' k ≡ o' → ((x : X) → o ≡ Some x → Fits a x) → ((x : X) → o' ≡ Some x → Fits a x) →
             lines a o ++ after ≡ lines a o' ++ after' → (get k ≡ get' k) × (EachSame get get' (suc k) rows × (z ≡ z'))
-        one-row none none g g' f f' e =
+        one-row None None g g' f f' e =
             (g ∙ sym g', below (sym (ap (λ (s : List ℕ). s ++ after) (no_lines a)) ∙ e ∙ ap (λ (s : List ℕ). s ++ after') (no_lines a)))
-        one-row none (some y) g g' f f' e =
+        one-row None (Some y) g g' f f' e =
             absurd (absent get (name a) (more a y after') z l p (suc k) rows ls n (sym (ap (λ (s : List ℕ). s ++ after) (no_lines a)) ∙ e ∙ some-lines a y after'))
-        one-row (some x) none g g' f f' e =
+        one-row (Some x) None g g' f f' e =
             absurd (absent get' (name a) (more a x after) z' l p' (suc k) rows ls n (sym (ap (λ (s : List ℕ). s ++ after') (no_lines a)) ∙ sym e ∙ some-lines a x after))
-        one-row (some x) (some y) g g' f f' e =
+        one-row (Some x) (Some y) g g' f f' e =
             let t = tail-eq_of_cons-eq (sym (some-lines a x after) ∙ e ∙ some-lines a y after') in
             let u = append_cancel_left (name a) _ _ (append_cancel_left tag _ _ t) in
             let w = tells a x y after after' (f x refl) (f' y refl) (tail-eq_of_cons-eq u) in
-            (g ∙ ap some w.0 ∙ sym g', below w.1)
+            (g ∙ ap Some w.0 ∙ sym g', below w.1)
 
       -- what stands before another byte, and that byte on
       tell-from : (k : ℕ) (rows : List A) (z z' : List ℕ) → EachFits Fits get k rows → EachFits Fits get' k rows → Lineless rows →
@@ -178,9 +178,9 @@ module _ {A X : Type 0} (c : ℕ) (tag : List ℕ) (name : A → List ℕ) (line
 
       -- the same of all rows, by their numbers
       pub tell-rows : (rows : List A) (z z' : List ℕ) →
-          ((i : ℕ) (a : A) (x : X) → at rows i ≡ some a → get i ≡ some x → Fits a x) → ((i : ℕ) (a : A) (x : X) → at rows i ≡ some a → get' i ≡ some x → Fits a x) →
+          ((i : ℕ) (a : A) (x : X) → at rows i ≡ Some a → get i ≡ Some x → Fits a x) → ((i : ℕ) (a : A) (x : X) → at rows i ≡ Some a → get' i ≡ Some x → Fits a x) →
           Lineless rows → distinct (λ a b. same_text (name a) (name b)) rows ≡ true → Other c z → Other c z' →
-          lines_from lines get 0 rows ++ z ≡ lines_from lines get' 0 rows ++ z' → ((i : ℕ) (a : A) → at rows i ≡ some a → get i ≡ get' i) × (z ≡ z')
+          lines_from lines get 0 rows ++ z ≡ lines_from lines get' 0 rows ++ z' → ((i : ℕ) (a : A) → at rows i ≡ Some a → get i ≡ get' i) × (z ≡ z')
       tell-rows rows z z' f f' l d p p' e =
           let w =
           tell-from 0 rows z z'

@@ -1,9 +1,9 @@
 -- The bytes of a listing tell the definitions that they are of, where these have their sorts.
 -- Assumes nothing.
+use Rattle.std.proofs.Common.{Some}
 use mathlib.Core.Path.{◌≡◌, refl, ap, ap₂, sym, ◌∙◌, subst}
 use mathlib.Core.Bool.{true, ◌&&◌}
 use mathlib.Core.List.{List, [], ◌∷◌, ◌++◌, append_assoc, append_cancel_left, head-eq_of_cons-eq, tail-eq_of_cons-eq}
-use mathlib.Core.Option.{some}
 use Prim.Native.Nat.{ℕ, suc}
 use Prim.Native.String.{String}
 use native.Mathlib.Omega.{arith}
@@ -55,7 +55,7 @@ module _ (T : Tables) where
   abbrev VariableFits : Variable → Value → Type 0
   VariableFits x v = Sorted T x.sort v
 
-  variable-lines : (x : Variable) (v : Value) (z : List ℕ) → variable_lines x (some v) ++ z ≡ 118 ∷ (bytes "ar=" ++ (x.name ++ (10 ∷ variable_more x v z)))
+  variable-lines : (x : Variable) (v : Value) (z : List ℕ) → variable_lines x (Some v) ++ z ≡ 118 ∷ (bytes "ar=" ++ (x.name ++ (10 ∷ variable_more x v z)))
   variable-lines x v z =
       let sort = line "sort" (decimal x.sort) in
       append_assoc (line "var" x.name) (sort ++ line "value" (text v)) z
@@ -97,7 +97,7 @@ module _ (T : Tables) where
   abbrev function_more : Function → Table → List ℕ → List ℕ
   function_more f t z = line "arg" (decimal f.argument) ++ (line "out" (decimal f.result) ++ (arm_lines t.arms ++ (line "else" (text t.«else») ++ z)))
 
-  function-lines : (f : Function) (t : Table) (z : List ℕ) → function_lines f (some t) ++ z ≡ 102 ∷ (bytes "un=" ++ (f.name ++ (10 ∷ function_more f t z)))
+  function-lines : (f : Function) (t : Table) (z : List ℕ) → function_lines f (Some t) ++ z ≡ 102 ∷ (bytes "un=" ++ (f.name ++ (10 ∷ function_more f t z)))
   function-lines f t z =
       let arg = line "arg" (decimal f.argument) in
       let out = line "out" (decimal f.result) in
@@ -141,8 +141,8 @@ module _ (T : Tables) where
 
   -- what all definitions fit
   pub record Fit (ds : List Definition) : Type 0 where
-    pub variables : (i : ℕ) (x : Variable) (v : Value) → at T.variables i ≡ some x → last_variable i ds ≡ some v → VariableFits x v
-    pub functions : (i : ℕ) (f : Function) (t : Table) → at T.functions i ≡ some f → last_function i ds ≡ some t → FunctionFits f t
+    pub variables : (i : ℕ) (x : Variable) (v : Value) → at T.variables i ≡ Some x → last_variable i ds ≡ Some v → VariableFits x v
+    pub functions : (i : ℕ) (f : Function) (t : Table) → at T.functions i ≡ Some f → last_function i ds ≡ Some t → FunctionFits f t
 
   other-first : (z : List ℕ) → Begins 102 z → Other 118 z
   other-first [] h = tt
@@ -158,7 +158,7 @@ module _ (T : Tables) where
     kept = lawful-parts T rules
 
     variables-tell : (z z' : List ℕ) → Other 118 z → Other 118 z' → variables_from ds 0 T.variables ++ z ≡ variables_from es 0 T.variables ++ z' →
-        ((i : ℕ) (x : Variable) → at T.variables i ≡ some x → last_variable i ds ≡ last_variable i es) × (z ≡ z')
+        ((i : ℕ) (x : Variable) → at T.variables i ≡ Some x → last_variable i ds ≡ last_variable i es) × (z ≡ z')
     variables-tell z z' p p' e =
         tell-rows 118 (bytes "ar=") (λ x. x.name) variable_lines variable_more (λ x. refl) variable-lines VariableFits variable-tells
         (λ i. last_variable i ds) (λ i. last_variable i es) T.variables z z' fit.variables fit'.variables
@@ -166,7 +166,7 @@ module _ (T : Tables) where
         (sym (ap (λ (l : List ℕ). l ++ z) (variables-from ds 0 T.variables)) ∙ e ∙ ap (λ (l : List ℕ). l ++ z') (variables-from es 0 T.variables))
 
     functions-tell : functions_from ds 0 T.functions ≡ functions_from es 0 T.functions →
-        (i : ℕ) (f : Function) → at T.functions i ≡ some f → last_function i ds ≡ last_function i es
+        (i : ℕ) (f : Function) → at T.functions i ≡ Some f → last_function i ds ≡ last_function i es
     functions-tell e =
         (tell-rows 102 (bytes "un=") (λ f. f.name) function_lines function_more (λ f. refl) function-lines FunctionFits function-tells
         (λ i. last_function i ds) (λ i. last_function i es) T.functions [] [] fit.functions fit'.functions

@@ -1,9 +1,9 @@
 -- What a table gives, its arms in order and without repeats: what the last of the written arms that test the value gives.
 -- Assumes nothing.
+use Rattle.std.proofs.Common.{Some}
 use mathlib.Core.Path.{◌≡◌, refl, ap, sym, ◌∙◌, subst}
 use mathlib.Core.Bool.{Bool, true, false, cond, not, true≢false}
 use mathlib.Core.List.{List, [], ◌∷◌, map}
-use mathlib.Core.Option.{some}
 use Prim.Native.Nat.{ℕ, zero, suc}
 use Rattle.ground.specs.Lists.{any, distinct, at}
 use Rattle.ground.proofs.Tests.{by_test, both_left, both_right}
@@ -151,13 +151,13 @@ first-given (a ∷ arms) else v =
     (λ h. rw h (by_arm 0 a refl (decided_true (equal a.«when» v) h) refl))
     (λ h. rw h (gives-later a arms else v (first_of arms else v) (decided_false (equal a.«when» v) h) (first-given arms else v)))
 
-pub every-at : {A : Type 0} (P : A → Type 0) (xs : List A) (i : ℕ) (y : A) → Every P xs → at xs i ≡ some y → P y
+pub every-at : {A : Type 0} (P : A → Type 0) (xs : List A) (i : ℕ) (y : A) → Every P xs → at xs i ≡ Some y → P y
 unfolding at
 every-at P [] i y none e = absurd (none-some e)
 every-at P (x ∷ xs) zero y (also p ps) e = subst P (some_one e) p
 every-at P (x ∷ xs) (suc i) y (also p ps) e = every-at P xs i y ps e
 
-arm-first : (arms : List Arm) (else v : Value) (i : ℕ) (a : Arm) → Ascends key_text arms → at arms i ≡ some a → a.«when» ≡ v → a.«then» ≡ first_of arms else v
+arm-first : (arms : List Arm) (else v : Value) (i : ℕ) (a : Arm) → Ascends key_text arms → at arms i ≡ Some a → a.«when» ≡ v → a.«then» ≡ first_of arms else v
 unfolding first_of at
 arm-first [] else v i a empty e p = absurd (none-some e)
 arm-first (b ∷ arms) else v zero a (first h s) e p =

@@ -1,9 +1,9 @@
 -- Demand 3's premises: each is needed, as a body or a value shows where it fails, and all can be met at once.
 -- Assumes nothing.
+use Rattle.std.proofs.Common.{None, Option, Some, Err, Ok, Result}
 use mathlib.Core.Path.{◌≡◌, refl, sym}
 use mathlib.Core.Bool.{Bool, true, false, true≢false}
 use mathlib.Core.List.{[], ◌∷◌}
-use mathlib.Core.Option.{Option, none, some}
 use Prim.Native.Nat.{ℕ}
 use Prim.Native.String.{String}
 use native.Mathlib.Omega.{arith}
@@ -22,7 +22,7 @@ use Rattle.tables.specs.Rules.{sorts_right, lawful}
 use Rattle.tables.specs.Sort.{bool, string, entity_of, Function, Tables}
 use Rattle.shapes.specs.Shape.{shape}
 use Rattle.shapes.specs.SortShape.{sort_shape}
-use Rattle.sorts.specs.Result.{Result, ok, refused, ◌>>=◌, unless}
+use Rattle.sorts.specs.Result.{◌>>=◌, unless}
 use Rattle.sorts.specs.Sort.{read_sort}
 use Rattle.values.specs.Normal.{normal}
 use Rattle.values.specs.Text.{text}
@@ -39,6 +39,7 @@ use Rattle.demand.specs.Meaning.{meaning_with, meaning}
 use Rattle.demand.specs.Lookup.{first_of, lookup}
 use Rattle.demand.specs.Premise.{apart, no_two}
 use Rattle.demand.specs.Demand.{Sorted}
+use Rattle.refusals.specs.declared.Refusal.{Refusal}
 
 abbrev equals : Tree → Tree → Tree
 equals a b = of (word "=" ∷ a ∷ b ∷ [])
@@ -64,9 +65,9 @@ record Seen : Type 0 where
   given : Option Value
   meant : Option Value
 
-abbrev gives : Result Table → Value → Option Value
-gives (ok t) v = some (lookup (settled_table t) v)
-gives (refused r) v = none
+abbrev gives : Result Table Refusal → Value → Option Value
+gives (Ok t) v = Some (lookup (settled_table t) v)
+gives (Err r) v = None
 
 abbrev from : ℕ → ℕ → Function
 from a r = record { name = bytes "f"; argument = a; result = r }
@@ -78,7 +79,7 @@ seen T x f body v =
       name_apart = apart T (bytes x);
       keys_once = no_two T f (record { argument = bytes x; term = body });
       given = gives (read_body T (bytes x) f.argument f.result body) v;
-      meant = meaning body T (bytes x) v (some f.result);
+      meant = meaning body T (bytes x) v (Some f.result);
     }
 
 bodies :
@@ -98,13 +99,13 @@ bodies :
     ∷ seen (tables "or" 1) "a" (from 0 1) (ite (equals (word "a") (word "true")) (word "m") (of (word "or" ∷ quoted (bytes "y") ∷ []))) (v_bool false)
     ∷ []
     ≡
-    record { tables_right = true; name_apart = true; keys_once = true; given = some (v_entity 1 (bytes "x")); meant = some (v_entity 1 (bytes "x")) }
-    ∷ record { tables_right = true; name_apart = true; keys_once = false; given = some (v_bool false); meant = some (v_bool true) }
-    ∷ record { tables_right = true; name_apart = true; keys_once = true; given = some (v_bool true); meant = some (v_bool true) }
-    ∷ record { tables_right = true; name_apart = false; keys_once = true; given = some (v_bool false); meant = some (v_bool true) }
-    ∷ record { tables_right = true; name_apart = false; keys_once = true; given = some (v_entity 1 (bytes "x")); meant = some (v_entity 1 (bytes "z")) }
-    ∷ record { tables_right = true; name_apart = false; keys_once = true; given = some (v_entity 1 (bytes "y")); meant = none }
-    ∷ record { tables_right = false; name_apart = true; keys_once = true; given = some (v_entity 1 (bytes "y")); meant = none }
+    record { tables_right = true; name_apart = true; keys_once = true; given = Some (v_entity 1 (bytes "x")); meant = Some (v_entity 1 (bytes "x")) }
+    ∷ record { tables_right = true; name_apart = true; keys_once = false; given = Some (v_bool false); meant = Some (v_bool true) }
+    ∷ record { tables_right = true; name_apart = true; keys_once = true; given = Some (v_bool true); meant = Some (v_bool true) }
+    ∷ record { tables_right = true; name_apart = false; keys_once = true; given = Some (v_bool false); meant = Some (v_bool true) }
+    ∷ record { tables_right = true; name_apart = false; keys_once = true; given = Some (v_entity 1 (bytes "x")); meant = Some (v_entity 1 (bytes "z")) }
+    ∷ record { tables_right = true; name_apart = false; keys_once = true; given = Some (v_entity 1 (bytes "y")); meant = None }
+    ∷ record { tables_right = false; name_apart = true; keys_once = true; given = Some (v_entity 1 (bytes "y")); meant = None }
     ∷ []
 unfolding lawful sorts_right all distinct any find at one_symbol in_symbol class_of utf8 octets kept kept_words same_text before insert arranged sort_row named_sort member_row shape sort_shape ◌>>=◌ unless read_sort normal text read_with chain tests key read_chain read_tests equal unbarred mentions meaning_with first_of apart no_two
 bodies = refl
@@ -114,7 +115,7 @@ abbrev variable : String → Tree → Tree
 variable sort value = of (of (word "define-fun" ∷ word "v" ∷ of [] ∷ word sort ∷ value ∷ []) ∷ [])
 
 -- a member of a bool row, which lawful tables have not: a variable's value is not of its sort
-member-read : (lawful (tables "E" 0) ≡ false) × (read_model (tables "E" 0) (variable "Bool" (word "m")) ≡ ok (is_variable 0 (v_entity 0 (bytes "x")) ∷ []))
+member-read : (lawful (tables "E" 0) ≡ false) × (read_model (tables "E" 0) (variable "Bool" (word "m")) ≡ Ok (is_variable 0 (v_entity 0 (bytes "x")) ∷ []))
 unfolding lawful sorts_right all distinct any one_symbol in_symbol class_of utf8 octets kept kept_words find at same_text sort_row member_row variable_row shape sort_shape ◌>>=◌ unless read_sort read_with command read_parts read_reply
 member-read = (refl, refl)
 
@@ -126,7 +127,7 @@ member_unsorted h = let e = h.here in let z : ◌≡◌ {A = ℕ} 0 1 = cc in ab
 abbrev strings : Tables
 strings = record { sorts = string ∷ []; variables = record { name = bytes "v"; sort = 0 } ∷ []; functions = []; members = [] }
 
-string-read : (lawful strings ≡ true) × (read_model strings (variable "String" (quoted (0xFF ∷ []))) ≡ ok (is_variable 0 (v_string (0xFF ∷ [])) ∷ []))
+string-read : (lawful strings ≡ true) × (read_model strings (variable "String" (quoted (0xFF ∷ []))) ≡ Ok (is_variable 0 (v_string (0xFF ∷ [])) ∷ []))
 unfolding lawful sorts_right all distinct any one_symbol in_symbol class_of utf8 octets kept kept_words find at same_text sort_row variable_row shape sort_shape ◌>>=◌ unless read_sort read_with command read_parts read_reply
 string-read = (refl, refl)
 
@@ -151,7 +152,7 @@ abbrev model : Tree
 model = of (of (word "define-fun" ∷ word "f" ∷ of (of (word "a" ∷ word "Bool" ∷ []) ∷ []) ∷ word "E" ∷ body ∷ []) ∷ [])
 
 met : (lawful complete ≡ true) × (apart complete (bytes "a") ≡ true) × (no_two complete (from 0 1) (record { argument = bytes "a"; term = body }) ≡ true)
-    × (read_model complete model ≡ ok (is_function 0 (table_of (arm_of (v_bool true) (v_entity 1 (bytes "x")) ∷ []) (v_entity 1 (bytes "y"))) ∷ []))
+    × (read_model complete model ≡ Ok (is_function 0 (table_of (arm_of (v_bool true) (v_entity 1 (bytes "x")) ∷ []) (v_entity 1 (bytes "y"))) ∷ []))
 unfolding lawful sorts_right all distinct any find at one_symbol in_symbol class_of utf8 octets kept kept_words same_text sort_row named_sort function_row member_row shape sort_shape ◌>>=◌ unless read_sort normal read_with command chain tests key read_chain read_parts read_reply equal unbarred apart no_two
 met = (refl, refl, refl, refl)
 

@@ -1,9 +1,9 @@
 -- The table of a body that is read: its keys have the argument's sort, its values and its default the result's.
 -- Assumes nothing.
+use Rattle.std.proofs.Common.{None, Option, Some, Ok}
 use mathlib.Core.Path.{◌≡◌, refl, sym, subst}
 use mathlib.Core.Bool.{true, false, true≢false}
 use mathlib.Core.List.{List}
-use mathlib.Core.Option.{Option, none, some}
 use Prim.Native.Nat.{ℕ}
 use lib.Dec.{eqb}
 use borrow.Author.Tests.{eqb-true}
@@ -13,7 +13,6 @@ use Rattle.arena.specs.Tree.{Tree, Trees, nil, cons}
 use Rattle.order.specs.Every.{Every}
 use Rattle.tables.specs.Rules.{lawful}
 use Rattle.tables.specs.Sort.{Sort, bool, string, ext, bit_vec, option_of, set_of, entity_of, record_of, Tables}
-use Rattle.sorts.specs.Result.{ok}
 use Rattle.sorts.specs.Sort.{levels}
 use Rattle.values.specs.HasSort.{HasSort, Loose}
 use Rattle.means.specs.Literal.{Lit, read}
@@ -26,16 +25,16 @@ use Rattle.model.specs.Model.{Table, is_bool, read_chain, read_tests, body_by, r
 use Rattle.demand.specs.Fits.{TableFits}
 
 -- the row is bool's
-bool-row : (o : Option Sort) → is_bool o ≡ true → o ≡ some bool
-bool-row none e = absurd (true≢false (sym e))
-bool-row (some bool) e = refl
-bool-row (some string) e = absurd (true≢false (sym e))
-bool-row (some (ext x)) e = absurd (true≢false (sym e))
-bool-row (some (bit_vec w)) e = absurd (true≢false (sym e))
-bool-row (some (option_of q)) e = absurd (true≢false (sym e))
-bool-row (some (set_of q)) e = absurd (true≢false (sym e))
-bool-row (some (entity_of name)) e = absurd (true≢false (sym e))
-bool-row (some (record_of name fs)) e = absurd (true≢false (sym e))
+bool-row : (o : Option Sort) → is_bool o ≡ true → o ≡ Some bool
+bool-row None e = absurd (true≢false (sym e))
+bool-row (Some bool) e = refl
+bool-row (Some string) e = absurd (true≢false (sym e))
+bool-row (Some (ext x)) e = absurd (true≢false (sym e))
+bool-row (Some (bit_vec w)) e = absurd (true≢false (sym e))
+bool-row (Some (option_of q)) e = absurd (true≢false (sym e))
+bool-row (Some (set_of q)) e = absurd (true≢false (sym e))
+bool-row (Some (entity_of name)) e = absurd (true≢false (sym e))
+bool-row (Some (record_of name fs)) e = absurd (true≢false (sym e))
 
 key-octets : (x : List ℕ) (test k : Tree) → TestView x test k → Octets test → Octets k
 key-octets x _ k t-left p = p.1.1.0
@@ -43,15 +42,15 @@ key-octets x _ k t-right p = p.1.0
 
 module _ (T : Tables) (rules : lawful T ≡ true) where
   -- a literal of the row that is asked for
-  pub read_at : (e : Option ℕ) (t : Tree) (l : Lit) (row : ℕ) → Octets t → read T levels e t ≡ ok l → eqb l.row row ≡ true → HasSort l.value Loose T row
+  pub read_at : (e : Option ℕ) (t : Tree) (l : Lit) (row : ℕ) → Octets t → read T levels e t ≡ Ok l → eqb l.row row ≡ true → HasSort l.value Loose T row
   read_at e t l row p m q = subst (λ (r : ℕ). HasSort l.value Loose T r) (eqb-true _ _ q) (read_fits T false rules levels e t l p m)
 
   module _ (x : List ℕ) (argument result : ℕ) where
-    key-at : (test k : Tree) (l : Lit) → Octets test → key x test ≡ some k → read T levels none k ≡ ok l → eqb l.row argument ≡ true → HasSort l.value Loose T argument
-    key-at test k l p e m q = read_at none k l argument (key-octets x test k (key-view x test k e) p) m q
+    key-at : (test k : Tree) (l : Lit) → Octets test → key x test ≡ Some k → read T levels None k ≡ Ok l → eqb l.row argument ≡ true → HasSort l.value Loose T argument
+    key-at test k l p e m q = read_at None k l argument (key-octets x test k (key-view x test k e) p) m q
 
     abbrev ChainFits : Tree → Chain → Type 0
-    ChainFits t c = Octets t → (table : Table) → read_chain T x argument result c ≡ ok table → TableFits T argument result table
+    ChainFits t c = Octets t → (table : Table) → read_chain T x argument result c ≡ Ok table → TableFits T argument result table
 
     end_fits : (t : Tree) → ChainFits t (default t)
     unfolding read_chain
@@ -59,7 +58,7 @@ module _ (T : Tables) (rules : lawful T ≡ true) where
         let w = went _ _ table e in
         let p = passed _ UnmatchedType _ table w.next in
         subst (TableFits T argument result) (ok_same p.1)
-        (record { keys = Every.none; values = Every.none; default = read_at (some result) t w.got result o w.first p.0 })
+        (record { keys = Every.none; values = Every.none; default = read_at (Some result) t w.got result o w.first p.0 })
 
     arm-fits : (test value rest : Tree) → ChainFits rest (chain rest) → ChainFits (ite test value rest) (arm test value (chain rest))
     unfolding read_chain
@@ -74,11 +73,11 @@ module _ (T : Tables) (rules : lawful T ≡ true) where
         subst (TableFits T argument result) (ok_same z.next)
         (record {
           keys = Every.also (key-at test k.got m.got o.1.0 (was-found UnexpectedForm (key x test) k.got k.first) m.first p.0) below.keys;
-          values = Every.also (read_at (some result) value l.got result o.1.1.0 l.first q.0) below.values;
+          values = Every.also (read_at (Some result) value l.got result o.1.1.0 l.first q.0) below.values;
           default = below.default;
         })
 
-    tests-fit : at T.sorts result ≡ some bool → (us : Trees) (t : Table) → OctetsAll us → read_tests T x argument result us ≡ ok t → TableFits T argument result t
+    tests-fit : at T.sorts result ≡ Some bool → (us : Trees) (t : Table) → OctetsAll us → read_tests T x argument result us ≡ Ok t → TableFits T argument result t
     unfolding read_tests
     tests-fit b nil t o e = subst (TableFits T argument result) (ok_same e) (record { keys = Every.none; values = Every.none; default = b })
     tests-fit b (cons test us) t o e =
@@ -94,11 +93,11 @@ module _ (T : Tables) (rules : lawful T ≡ true) where
           default = below.default;
         })
 
-    pub body-fits : (body : Tree) (t : Table) → Octets body → read_body T x argument result body ≡ ok t → TableFits T argument result t
+    pub body-fits : (body : Tree) (t : Table) → Octets body → read_body T x argument result body ≡ Ok t → TableFits T argument result t
     body-fits body t o e = go (tests body) refl e
       where
-        go : (u : Option Trees) → tests body ≡ u → body_by T x argument result body u ≡ ok t → TableFits T argument result t
-        go none h m = chain_by ChainFits end_fits arm-fits body o t m
-        go (some us) h m =
+        go : (u : Option Trees) → tests body ≡ u → body_by T x argument result body u ≡ Ok t → TableFits T argument result t
+        go None h m = chain_by ChainFits end_fits arm-fits body o t m
+        go (Some us) h m =
             let p = passed _ UnmatchedType _ t m in
             tests-fit (bool-row (at T.sorts result) p.0) us t (subst Octets (tests-view body us h) o).1 p.1

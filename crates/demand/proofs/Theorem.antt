@@ -1,16 +1,15 @@
 -- Demand 3, of every accepted model, and its first sentence, of every accepted reply to get-value.
 -- Assumes nothing.
+use Rattle.std.proofs.Common.{None, Option, Some, Ok}
 use mathlib.Core.Path.{◌≡◌, refl, ap, sym, ◌∙◌, subst}
 use mathlib.Core.Bool.{true}
 use mathlib.Core.List.{List, map}
-use mathlib.Core.Option.{Option, none, some}
 use Prim.Native.Nat.{ℕ}
 use Rattle.ground.specs.Lists.{at, distinct}
 use Rattle.refusals.specs.declared.Refusal.TheVariants.{UnmatchedType}
 use Rattle.arena.specs.Tree.{Tree, Trees, Sound, bit_vec, numeral, string, symbol, app}
 use Rattle.tables.specs.Rules.{lawful}
 use Rattle.tables.specs.Sort.{Variable, Function, Tables}
-use Rattle.sorts.specs.Result.{ok}
 use Rattle.values.specs.HasSort.{Ascending, Loose}
 use Rattle.values.specs.Normal.{normal}
 use Rattle.values.specs.Value.{Value, v_bool}
@@ -39,11 +38,11 @@ use Rattle.demand.proofs.Commands.{Reads, no-term, of-term, parts-read, Matches,
 use Rattle.demand.proofs.Settled.{every-settled, one_value}
 
 module _ (T : Tables) (rules : lawful T ≡ true) where
-  module _ (f : Function) (b : Body) (t : Table) (v : Value) (accepted : read_body T b.argument f.argument f.result b.term ≡ ok t) where
+  module _ (f : Function) (b : Body) (t : Table) (v : Value) (accepted : read_body T b.argument f.argument f.result b.term ≡ Ok t) where
     fits : Octets b.term → TableFits T f.argument f.result t
     fits o = body-fits T rules b.argument f.argument f.result b.term t o accepted
 
-    keys-distinct : tests b.term ≡ none → no_two T f b ≡ true → distinct same_key t.arms ≡ true
+    keys-distinct : tests b.term ≡ None → no_two T f b ≡ true → distinct same_key t.arms ≡ true
     unfolding no_two
     keys-distinct h two = rw (accepted, h) at two
 
@@ -51,27 +50,27 @@ module _ (T : Tables) (rules : lawful T ≡ true) where
     last-is-first : no_two T f b ≡ true → last_hit t.arms (normal t.«else») v ≡ first_hit t.arms (normal t.«else») v
     last-is-first two = go (tests b.term) refl accepted
       where
-        go : (o : Option Trees) → tests b.term ≡ o → body_by T b.argument f.argument f.result b.term o ≡ ok t →
+        go : (o : Option Trees) → tests b.term ≡ o → body_by T b.argument f.argument f.result b.term o ≡ Ok t →
             last_hit t.arms (normal t.«else») v ≡ first_hit t.arms (normal t.«else») v
-        go none h m = last-first t.arms (normal t.«else») v (keys-distinct h two)
-        go (some us) h m =
+        go None h m = last-first t.arms (normal t.«else») v (keys-distinct h two)
+        go (Some us) h m =
             last-first-one t.arms (v_bool true) (normal t.«else») v
             (tests_give T b.argument f.argument f.result us t (passed _ UnmatchedType _ t m).1)
 
-    table-means : Octets b.term → apart T b.argument ≡ true → no_two T f b ≡ true → meaning b.term T b.argument v (some f.result) ≡ some (lookup (settled_table t) v)
+    table-means : Octets b.term → apart T b.argument ≡ true → no_two T f b ≡ true → meaning b.term T b.argument v (Some f.result) ≡ Some (lookup (settled_table t) v)
     table-means o name two =
         body-first T b.argument v (literal-means T rules b.argument name v _) f.argument f.result b.term t accepted
-        ∙ ap some (sym (
+        ∙ ap Some (sym (
         lookup-arranged (λ u. Sorted T f.argument u) (λ u w h k e. tells Ascending Ascending T u w f.argument h k e) t.arms (normal t.«else») v
         (every-settled T f.argument (λ a. a.«when») (λ a. refl) t.arms (fits o).keys)
         ∙ last-is-first two))
 
-  of-variable : (i : ℕ) (x : Variable) (there : at T.variables i ≡ some x) (o : Option Value) (c : Option Tree) → Reads T i x there o c → OfVariable T x c (mapped normal o)
+  of-variable : (i : ℕ) (x : Variable) (there : at T.variables i ≡ Some x) (o : Option Value) (c : Option Tree) → Reads T i x there o c → OfVariable T x c (mapped normal o)
   of-variable i x there _ _ no-term = OfVariable.undefined
   of-variable i x there _ _ (of-term {t = t} l o e k) =
-      OfVariable.defined (normal-fits Loose T l.value x.sort (read_at T rules (some x.sort) t l x.sort o e k)) (ap value_of e)
+      OfVariable.defined (normal-fits Loose T l.value x.sort (read_at T rules (Some x.sort) t l x.sort o e k)) (ap value_of e)
 
-  of_function : (i : ℕ) (f : Function) (there : at T.functions i ≡ some f) (o : Option Table) (c : Option Body) → Matches T i f there o c → OfFunction T f c (mapped settled_table o)
+  of_function : (i : ℕ) (f : Function) (there : at T.functions i ≡ Some f) (o : Option Table) (c : Option Body) → Matches T i f there o c → OfFunction T f c (mapped settled_table o)
   of_function i f there _ _ no_body = OfFunction.undefined
   of_function i f there _ _ (of-body {t = t} {b = b} o m) =
       OfFunction.defined (record {
@@ -79,12 +78,12 @@ module _ (T : Tables) (rules : lawful T ≡ true) where
         means = λ name two v. table-means f b t v m o name two;
       })
 
-  of_parts : (form : Form) (us : Trees) (ds : List Definition) → OctetsAll us → read_parts T form us ≡ ok ds → First T form (app us) (map settled ds)
+  of_parts : (form : Form) (us : Trees) (ds : List Definition) → OctetsAll us → read_parts T form us ≡ Ok ds → First T form (app us) (map settled ds)
   of_parts form us ds o e i x there =
       subst (OfVariable T x (last_term_in T i form us)) (sym (settled-variable i ds)) (of-variable i x there (last_variable i ds) (last_term_in T i form us) (parts-read T i x there form us ds o e))
 
   -- its first sentence, of either form
-  pub first-demand : (form : Form) (t : Tree) (ds : List Definition) → Octets t → read_reply T form t ≡ ok ds → First T form t (map settled ds)
+  pub first-demand : (form : Form) (t : Tree) (ds : List Definition) → Octets t → read_reply T form t ≡ Ok ds → First T form t (map settled ds)
   unfolding read_reply
   first-demand form (bit_vec w n) ds o e = refuses e
   first-demand form (numeral n) ds o e = refuses e
@@ -92,7 +91,7 @@ module _ (T : Tables) (rules : lawful T ≡ true) where
   first-demand form (symbol s) ds o e = refuses e
   first-demand form (app us) ds o e = of_parts form us ds o e
 
-  of-functions : (i : ℕ) (f : Function) → at T.functions i ≡ some f → (t : Tree) (ds : List Definition) → Octets t → read_model T t ≡ ok ds → OfFunction T f (last_body T i t) (last_function i (map settled ds))
+  of-functions : (i : ℕ) (f : Function) → at T.functions i ≡ Some f → (t : Tree) (ds : List Definition) → Octets t → read_model T t ≡ Ok ds → OfFunction T f (last_body T i t) (last_function i (map settled ds))
   unfolding read_reply
   of-functions i f there (bit_vec w n) ds o e = refuses e
   of-functions i f there (numeral n) ds o e = refuses e
@@ -101,11 +100,11 @@ module _ (T : Tables) (rules : lawful T ≡ true) where
   of-functions i f there (app us) ds o e =
       subst (OfFunction T f (last_body_in T i us)) (sym (settled-function i ds)) (of_function i f there (last_function i ds) (last_body_in T i us) (commands_match T i f there us ds o e))
 
-  pub third-demand : (t : Tree) (ds : List Definition) → Octets t → read_model T t ≡ ok ds → Demand T t (map settled ds)
+  pub third-demand : (t : Tree) (ds : List Definition) → Octets t → read_model T t ≡ Ok ds → Demand T t (map settled ds)
   third-demand t ds o e = record { variables = first-demand Form.Model t ds o e; functions = λ i f there. of-functions i f there t ds o e }
 
   -- R-1
-  no-functions : (i : ℕ) (t : Tree) (ds : List Definition) → read_values T t ≡ ok ds → last_function i (map settled ds) ≡ none
+  no-functions : (i : ℕ) (t : Tree) (ds : List Definition) → read_values T t ≡ Ok ds → last_function i (map settled ds) ≡ None
   unfolding read_reply
   no-functions i (bit_vec w n) ds e = refuses e
   no-functions i (numeral n) ds e = refuses e
@@ -113,10 +112,10 @@ module _ (T : Tables) (rules : lawful T ≡ true) where
   no-functions i (symbol s) ds e = refuses e
   no-functions i (app us) ds e = settled-function i ds ∙ ap (mapped settled_table) (pairs_tableless T i us ds e)
 
-  pub values-demand : (t : Tree) (ds : List Definition) → Octets t → read_values T t ≡ ok ds → Valued T t (map settled ds)
+  pub values-demand : (t : Tree) (ds : List Definition) → Octets t → read_values T t ≡ Ok ds → Valued T t (map settled ds)
   values-demand t ds o e = record { variables = first-demand Form.Values t ds o e; functions = λ i. no-functions i t ds e }
 
   -- of a tree that stands in an arena
-  pub demanded : (form : Form) (t : Tree) (ds : List Definition) → Sound t → read_reply T form t ≡ ok ds → Demanded form T t (map settled ds)
+  pub demanded : (form : Form) (t : Tree) (ds : List Definition) → Sound t → read_reply T form t ≡ Ok ds → Demanded form T t (map settled ds)
   demanded Form.Model t ds s e = third-demand t ds (sound-octets t s) e
   demanded Form.Values t ds s e = values-demand t ds (sound-octets t s) e

@@ -1,6 +1,5 @@
 -- Document 01, "The model walk", bodies, and document 02, R-2, for demand 3: what some terms mean.
-use Rattle.std.specs.Prelude.{◌≡◌, refl, true, false, List, [], ◌∷◌}
-use Rattle.std.proofs.Math.Option.{Option, none, some}
+use Rattle.std.specs.Prelude.{◌≡◌, refl, true, false, List, [], ◌∷◌, None, Option, Some}
 use Prim.Native.String.{String}
 use Rattle.std.proofs.Math.Decide.{ℕ_discrete}
 use Rattle.ground.specs.Bytes.{bytes}
@@ -36,7 +35,7 @@ tables = record { sorts = bool ∷ bits 8 ∷ option_of 0 ∷ []; variables = []
 
 -- a term where the argument of a name has a value, and nothing is expected
 abbrev means : String → Value → Tree → Option Value
-means x v t = meaning t tables (bytes x) v none
+means x v t = meaning t tables (bytes x) v None
 
 examples :
     means "a" (v_bool true) (of (word "or" ∷ []))
@@ -52,13 +51,13 @@ examples :
     ∷ means "a" (v_bool true) (of (word "=" ∷ word "a" ∷ []))
     ∷ means "a" (v_bool true) (of (word "ite" ∷ word "a" ∷ word "true" ∷ word "b" ∷ []))
     ∷ []
-    ≡ some (v_bool false) ∷ some (v_bool false) ∷ some (v_bool true) ∷ some (v_bool true) ∷ some (v_bool true) ∷ some (v_bool false) ∷ none ∷ none ∷ none ∷ []
+    ≡ Some (v_bool false) ∷ Some (v_bool false) ∷ Some (v_bool true) ∷ Some (v_bool true) ∷ Some (v_bool true) ∷ Some (v_bool false) ∷ None ∷ None ∷ None ∷ []
 unfolding find at worth from all parsed same_text sort_row member_row shape ◌>>=◌ unless normal read_with equal unbarred mentions meaning_with ℕ_discrete
 examples = refl
 
 -- R-2: the same, operators inside literals worked out
 abbrev means_worked : String → Value → Tree → Option Value
-means_worked x v t = meaning_with true t tables (bytes x) v none
+means_worked x v t = meaning_with true t tables (bytes x) v None
 
 abbrev negated : Tree → Tree
 negated t = of (word "not" ∷ t ∷ [])
@@ -78,6 +77,6 @@ operators :
     ∷ means_worked "a" (v_bool true) (of (word "bvnego" ∷ word "a" ∷ []))
     ∷ means_worked "a" (v_bool true) (of (word "not" ∷ word "a" ∷ word "a" ∷ []))
     ∷ []
-    ≡ some (v_bool false) ∷ some (v_bool false) ∷ some (v_bool true) ∷ some (v_some (v_bool false)) ∷ some (v_bool true) ∷ some (v_bool true) ∷ none ∷ none ∷ none ∷ none ∷ []
+    ≡ Some (v_bool false) ∷ Some (v_bool false) ∷ Some (v_bool true) ∷ Some (v_some (v_bool false)) ∷ Some (v_bool true) ∷ Some (v_bool true) ∷ None ∷ None ∷ None ∷ None ∷ []
 unfolding find at same_text sort_row shape ◌>>=◌ unless signed normal read_with equal unbarred mentions meaning_with ℕ_discrete
 operators = refl

@@ -1,6 +1,5 @@
 -- Document 01, "The listing", `when=`, `then=` and `else=`: the value that a table gives an argument.
-use Rattle.std.specs.Prelude.{◌≡◌, cond, List, [], ◌∷◌, ℕ}
-use Rattle.std.proofs.Math.Option.{some}
+use Rattle.std.specs.Prelude.{◌≡◌, cond, List, [], ◌∷◌, ℕ, Some}
 use Rattle.ground.specs.Lists.{at}
 use Rattle.order.specs.Every.{Every}
 use Rattle.values.specs.Value.{Value}
@@ -17,5 +16,5 @@ lookup t v = first_of t.arms t.«else» v
 
 -- the values that a table can be said to give: of any arm whose key the argument is, and the default where it is no key
 pub data Gives (t : Table) (v w : Value) : Type 0 where
-  by_arm : (i : ℕ) (a : Arm) → at t.arms i ≡ some a → a.«when» ≡ v → a.«then» ≡ w → Gives t v w
+  by_arm : (i : ℕ) (a : Arm) → at t.arms i ≡ Some a → a.«when» ≡ v → a.«then» ≡ w → Gives t v w
   by_default : Every (λ a. a.«when» ≡ v → ⊥) t.arms → t.«else» ≡ w → Gives t v w

@@ -1,17 +1,16 @@
 -- Demand 3's premises on a body: its argument's name, compared without bars, and its keys.
-use Rattle.std.specs.Prelude.{Bool, true, false, not, ◌&&◌, List, ℕ}
-use Rattle.std.proofs.Math.Option.{Option, none, some}
+use Rattle.std.specs.Prelude.{Bool, true, false, not, ◌&&◌, List, ℕ, None, Option, Some, Err, Ok, Result}
 use Rattle.ground.specs.Lists.{any, distinct}
 use Rattle.arena.specs.Tree.{Trees}
 use Rattle.tables.specs.Kept.{kept_words}
 use Rattle.tables.specs.Sort.{Sort, bool, string, ext, bit_vec, option_of, set_of, entity_of, record_of, Function, Tables}
-use Rattle.sorts.specs.Result.{Result, ok, refused}
 use Rattle.values.specs.Normal.{normal}
 use Rattle.commands.specs.Command.{tests}
 use Rattle.model.specs.Model.{Arm, Table, read_body}
 use Rattle.values.specs.Equal.{decided, equal}
 use Rattle.demand.specs.Mention.{same_name}
 use Rattle.demand.specs.Last.{Body}
+use Rattle.refusals.specs.declared.Refusal.{Refusal}
 
 -- the name is the row's, if it has one
 abbrev pub names_sort : List ℕ → Sort → Bool
@@ -32,10 +31,10 @@ apart T x = not (any (λ w. same_name w x) kept_words) && not (any (names_sort x
 abbrev pub same_key : Arm → Arm → Bool
 same_key a b = decided (equal (normal a.«when») (normal b.«when»))
 
-abbrev pub keys_apart : Option Trees → Result Table → Bool
-keys_apart (some us) m = true
-keys_apart none (ok t) = distinct same_key t.arms
-keys_apart none (refused r) = true
+abbrev pub keys_apart : Option Trees → Result Table Refusal → Bool
+keys_apart (Some us) m = true
+keys_apart None (Ok t) = distinct same_key t.arms
+keys_apart None (Err r) = true
 
 -- no two arms of an ite body test equal values, the keys being those that document 01 reads; a list of tests may repeat them
 unfoldable pub no_two : Tables → Function → Body → Bool

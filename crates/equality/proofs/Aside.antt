@@ -1,9 +1,9 @@
 -- What is noted of a `set.singleton` is no bit of an operator's application, so that what operators gave stays.
 -- Assumes nothing.
+use Rattle.std.proofs.Common.{None, Option, Some}
 use mathlib.Core.Path.{◌≡◌, refl, sym, ap, ◌∙◌, subst}
 use mathlib.Core.Bool.{Bool, true, false, true≢false}
 use mathlib.Core.List.{List}
-use mathlib.Core.Option.{Option, none, some}
 use Prim.Native.Nat.{ℕ, ◌+◌, ◌/◌, ◌<◌}
 use native.Mathlib.Omega.{arith}
 use Rattle.ground.proofs.Tests.{by_order}
@@ -59,11 +59,11 @@ headed us h = go us (shape us) (view us) h
     go _ _ v_made h = absurd (true≢false (sym h))
     go _ _ v_other h = absurd (true≢false (sym h))
 
-no-some : {A B : Type 0} {b : A} → ◌≡◌ {A = Option A} none (some b) → B
+no-some : {A B : Type 0} {b : A} → ◌≡◌ {A = Option A} None (Some b) → B
 no-some e = let z : ◌≡◌ {A = ℕ} 0 1 = cc in absurd (omega arith)
 
 -- what decides something is an operator
-operators : (T : Tables) (s : Shape) (b : Bool) → decision T s ≡ some b → worded s ≡ true
+operators : (T : Tables) (s : Shape) (b : Bool) → decision T s ≡ Some b → worded s ≡ true
 operators T uncovered b d = no-some d
 operators T (as_none t) b d = no-some d
 operators T (as_some t v) b d = no-some d

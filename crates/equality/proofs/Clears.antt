@@ -1,9 +1,9 @@
 -- The members of a set noted: none of them, and whether all are.
 -- Assumes nothing.
+use Rattle.std.proofs.Common.{Option, Ok}
 use mathlib.Core.Path.{◌≡◌, refl, sym, ap, ap₂, ◌∙◌, subst}
 use mathlib.Core.Bool.{Bool, true, false, ◌&&◌}
 use mathlib.Core.List.{List, [], ◌∷◌, ◌++◌, map}
-use mathlib.Core.Option.{Option}
 use Prim.Native.Nat.{ℕ, zero, suc, ◌+◌, ◌-◌, ◌*◌, ◌/◌, ◌≤◌, ◌<◌}
 use native.Mathlib.Omega.{arith}
 use lib.ListN.{length}
@@ -17,7 +17,6 @@ use Rattle.arena.proofs.Layouts.{stands-longer}
 use Rattle.tables.specs.Sort.{Tables}
 use Rattle.shapes.specs.Shape.{shape}
 use Rattle.shapes.specs.Shows.{Standing}
-use Rattle.sorts.specs.Result.{ok}
 use Rattle.sorts.specs.Sort.{levels}
 use Rattle.values.specs.Value.{Values, v_set}
 use Rattle.means.specs.Literal.{Lit, read_with}
@@ -135,7 +134,7 @@ module _ (ms ws ts : List ℕ) (i j : ℕ) (takes : TakesAt ms ws ts i j) (r : P
     both_nested allow P z = by_part allow P (λ T below next ps vs most fuel room o.
         let s = subst (PartSays T ms ws ts below j o.there.next o.us vs) d o.says in
         let q : below ≡ 0 = omega arith in
-        refuses (subst (λ (a : ℕ). read_with T true a s.expected s.at_left.tree ≡ ok s.first) q s.at_left.reads))
+        refuses (subst (λ (a : ℕ). read_with T true a s.expected s.at_left.tree ≡ Ok s.first) q s.at_left.reads))
 
     joined : (T : Tables) (below next : ℕ) (ps : List ℕ) (vs : Values) (o : Opened T ms ws ts i j next r below ps vs) →
         let s = subst (PartSays T ms ws ts below j o.there.next o.us vs) d o.says in

@@ -1,12 +1,12 @@
 -- Values without another one in them, compared: one law for each way out.
 -- Assumes nothing.
 use mathlib.Core.Path.{◌≡◌, refl, sym, ap, ap₂, ◌∙◌, subst}
-use mathlib.Core.Bool.{Bool, true, false, ◌&&◌, true≢false}
+use mathlib.Core.Bool.{Bool, false, ◌&&◌, true≢false}
 use mathlib.Core.List.{List, [], ◌∷◌}
-use Prim.Native.Nat.{ℕ, ◌+◌, ◌-◌, ◌*◌, ◌%◌, ◌^◌, ◌≤◌, ◌<◌}
+use Prim.Native.Nat.{ℕ, ◌+◌, ◌-◌, ◌*◌, ◌^◌, ◌<◌}
 use native.Mathlib.Omega.{arith}
 use lib.Dec.{eqb}
-use lib.IntN.{ℤ, pos, negsuc}
+use lib.IntN.{pos, negsuc}
 use types.Run.{OneOf, miss}
 use denote.Enum.Declared.{tag_of}
 use borrow.Author.Tests.{eq-eqb, ne_eqb, eqb-true}
@@ -15,11 +15,11 @@ use Rattle.words.specs.Extension.{signed}
 use Rattle.words.proofs.Signs.{minus, signed_low, signed_high}
 use Rattle.arena.specs.Text.{text_at, same_text}
 use Rattle.tables.specs.Rules.{ext_kind}
-use Rattle.tables.specs.Sort.{Ext, decimal, datetime, duration, Tables}
+use Rattle.tables.specs.Sort.{Ext, decimal, datetime, duration}
 use Rattle.shapes.specs.declared.shape.Kind.{Kind}
-use Rattle.shapes.specs.Shows.{ext_of, Reads}
+use Rattle.shapes.specs.Shows.{ext_of}
 use Rattle.values.specs.Same.{same}
-use Rattle.values.specs.Value.{Value, v_ext, v_bits, v_entity}
+use Rattle.values.specs.Value.{Value, v_entity}
 use Rattle.values.proofs.Compares.{form_of, unlike, entities-same, numbers-same}
 use Rattle.forms.specs.declared.form.Form.{Form}
 use Rattle.forms.specs.Form.{Says}

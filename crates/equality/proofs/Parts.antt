@@ -1,9 +1,9 @@
 -- What a set is made of: one law for each way out.
 -- Assumes nothing.
+use Rattle.std.proofs.Common.{None, Option, Some, Ok}
 use mathlib.Core.Path.{◌≡◌, refl, sym, ap, ◌∙◌, subst}
 use mathlib.Core.Bool.{Bool, true, false, true≢false}
 use mathlib.Core.List.{List, [], ◌∷◌}
-use mathlib.Core.Option.{Option, none, some}
 use Prim.Native.Nat.{ℕ, suc, ◌+◌, ◌≤◌, ◌%◌, ◌^◌}
 use native.Mathlib.Omega.{arith}
 use types.Run.{OneOf, miss}
@@ -16,12 +16,10 @@ use Rattle.refusals.specs.declared.Refusal.TheVariants.{UnmatchedType, Unmatched
 use Rattle.ground.specs.Lists.{at}
 use Rattle.words.specs.Extension.{signed}
 use Rattle.tables.specs.Sort.{Sort, bool, string, ext, bit_vec, option_of, set_of, entity_of, record_of, Tables}
-use Rattle.shapes.specs.declared.look.Parts.{Parts}
 use Rattle.shapes.specs.declared.shape.Found.{Found}
 use Rattle.shapes.specs.Shape.{Shape, uncovered, as_none, as_some, some_of, as_empty, singleton, union, extension, indexed, made, other, unary, binary, ite, shape}
 use Rattle.shapes.specs.Shows.{Standing, Shows, ShapeAt, PartsAt}
 use Rattle.shapes.specs.contracts.shape.Found as FoundType
-use Rattle.sorts.specs.Result.{ok}
 use Rattle.sorts.specs.Sort.{read_sort, levels}
 use Rattle.values.specs.Value.{Value, Values, v_bool, v_ext, v_bits, v_none, v_some, v_set, v_entity, v_record, v_nil, v_cons, union as both}
 use Rattle.values.proofs.Compares.{form_of}
@@ -37,7 +35,7 @@ use Rattle.equality.specs.declared.part.Part.{Part}
 use Rattle.equality.specs.Part.{PartSays, PartAt}
 
 -- a set is an application
-set-app : (T : Tables) (a : ℕ) (e : Option ℕ) (t : Tree) (l : Lit) (vs : Values) → read_with T true (suc a) e t ≡ ok l → l.value ≡ v_set vs → (us : Trees) × (t ≡ app us)
+set-app : (T : Tables) (a : ℕ) (e : Option ℕ) (t : Tree) (l : Lit) (vs : Values) → read_with T true (suc a) e t ≡ Ok l → l.value ≡ v_set vs → (us : Trees) × (t ≡ app us)
 set-app T a e t l vs m h = go t l.row l.value (reading T true a e t l m) (ap form_of h)
   where
     go : (t : Tree) (row : ℕ) (v : Value) → Reading true T a e t row v → form_of v ≡ 6 → (us : Trees) × (t ≡ app us)
@@ -69,7 +67,7 @@ set_shape (ite c v w) = false
 same_set : (vs ws : Values) → v_set vs ≡ v_set ws → vs ≡ ws
 same_set vs ws e = cc
 
-module _ (ws ts : List ℕ) (i : ℕ) (T : Tables) (ms : List ℕ) (below : ℕ) (e : Option ℕ) (l : Lit) (us : Trees) (s : Standing (app us) ws ts i) (read : read_with T true (suc below) e (app us) ≡ ok l)
+module _ (ws ts : List ℕ) (i : ℕ) (T : Tables) (ms : List ℕ) (below : ℕ) (e : Option ℕ) (l : Lit) (us : Trees) (s : Standing (app us) ws ts i) (read : read_with T true (suc below) e (app us) ≡ Ok l)
     (settled : Settled T ms ws ts i s.next) (vs : Values) (is : l.value ≡ v_set vs) where
   accepted : (x : Shape) → shape us ≡ x → Accepts T below e l x
   accepted x d = subst (Accepts T below e l) d (app-accepts T below e l us read)
@@ -163,16 +161,16 @@ module _ (ws ts : List ℕ) (i : ℕ) (T : Tables) (ms : List ℕ) (below : ℕ)
       let w = went _ _ l m in
       go w.got (at T.sorts w.got) w.next
     where
-      go : {A : Type 0} (row : ℕ) (o : Option Sort) → made_row T (λ t. read_sort T below t) (λ x u. read_with T true below x u) row o us ≡ ok l → A
-      go row none m = refuses m
-      go row (some bool) m = refuses m
-      go row (some string) m = refuses m
-      go row (some (ext x)) m = refuses m
-      go row (some (bit_vec w)) m = refuses m
-      go row (some (option_of q)) m = refuses m
-      go row (some (set_of q)) m = refuses m
-      go row (some (entity_of name)) m = let k = is-entity T below e l row us m in clash (v_entity row k.0) k.2 (λ z. absurd (omega arith))
-      go row (some (record_of name fs)) m =
+      go : {A : Type 0} (row : ℕ) (o : Option Sort) → made_row T (λ t. read_sort T below t) (λ x u. read_with T true below x u) row o us ≡ Ok l → A
+      go row None m = refuses m
+      go row (Some bool) m = refuses m
+      go row (Some string) m = refuses m
+      go row (Some (ext x)) m = refuses m
+      go row (Some (bit_vec w)) m = refuses m
+      go row (Some (option_of q)) m = refuses m
+      go row (Some (set_of q)) m = refuses m
+      go row (Some (entity_of name)) m = let k = is-entity T below e l row us m in clash (v_entity row k.0) k.2 (λ z. absurd (omega arith))
+      go row (Some (record_of name fs)) m =
           let q = passed _ UnmatchedRecordType _ l m in
           let w = went _ _ l q.1 in
           clash (v_record row w.got) (ap (λ (k : Lit). k.value) (sym (ok_same w.next))) (λ z. absurd (omega arith))
@@ -194,18 +192,18 @@ module _ (ws ts : List ℕ) (i : ℕ) (T : Tables) (ms : List ℕ) (below : ℕ)
   no-set (ite c v w) d h p most = absurd (true≢false (sym (ap ite_shape d) ∙ p))
 
 -- by what is found
-module _ (ws ts : List ℕ) (i : ℕ) (p : Parts) (parts : PartsAt ws i p) where
+module _ (ws ts : List ℕ) (i : ℕ) (p : Option ℕ) (parts : PartsAt ws i p) where
   -- the tree is an application, its place the same
-  by-app : (r : Part) → ((T : Tables) (ms : List ℕ) (below : ℕ) (e : Option ℕ) (l : Lit) (us : Trees) (s : Standing (app us) ws ts i) → read_with T true (suc below) e (app us) ≡ ok l → Settled T ms ws ts i s.next →
+  by-app : (r : Part) → ((T : Tables) (ms : List ℕ) (below : ℕ) (e : Option ℕ) (l : Lit) (us : Trees) (s : Standing (app us) ws ts i) → read_with T true (suc below) e (app us) ≡ Ok l → Settled T ms ws ts i s.next →
       is_ite (app us) ≡ false → (vs : Values) → l.value ≡ v_set vs → suc below ≤ levels → PartSays T ms ws ts below i s.next us vs r) → PartAt ws ts i r
   by-app r f T ms below e l first end most h vs is =
       let t = h.stood in
       let k = set-app T below e t.tree l vs t.reads is in
       let s : Standing (app k.0) ws ts i =
       record { next = t.there.next; from = t.there.from; rest = t.there.rest; there = subst (λ (x : Tree). TreeStands x ws ts i t.there.next t.there.from t.there.rest) k.1 t.there.there } in
-      (k.0, k.1, f T ms below e l k.0 s (subst (λ (x : Tree). read_with T true (suc below) e x ≡ ok l) k.1 t.reads) t.settled (ap is_ite (sym k.1) ∙ h.plain) vs is most)
+      (k.0, k.1, f T ms below e l k.0 s (subst (λ (x : Tree). read_with T true (suc below) e x ≡ Ok l) k.1 t.reads) t.settled (ap is_ite (sym k.1) ∙ h.plain) vs is most)
 
-  pub part-atom : p ≡ Parts.NoList → PartAt ws ts i Part.NoSet
+  pub part-atom : p ≡ None → PartAt ws ts i Part.NoSet
   part-atom d = by-app Part.NoSet (λ T ms below e l us s m g q vs is most. absurd (true≢false (subst (PartsAt ws i) d parts ts (app us) s)))
 
   module _ (found : Found) (shown : ShapeAt ws ts i found) where

@@ -1,9 +1,9 @@
 -- Where the members of a set stand: as far down as it is read, along the branches that are taken, and inside its part of the arena.
 -- Assumes nothing.
+use Rattle.std.proofs.Common.{Option, Ok}
 use mathlib.Core.Path.{◌≡◌, refl, sym, ap, ap₂, ◌∙◌, subst}
 use mathlib.Core.Bool.{Bool, true, false, cond}
 use mathlib.Core.List.{List, [], ◌∷◌, ◌++◌}
-use mathlib.Core.Option.{Option}
 use Prim.Native.Nat.{ℕ, zero, suc, ◌+◌, ◌≤◌}
 use native.Mathlib.Omega.{arith}
 use Rattle.ground.specs.Bytes.{bytes}
@@ -16,7 +16,6 @@ use Rattle.order.proofs.Everies.{every_map, every_append}
 use Rattle.tables.specs.Sort.{Tables}
 use Rattle.shapes.specs.Shape.{Shape, uncovered, as_none, as_some, some_of, as_empty, singleton, union, extension, indexed, made, other, unary, binary, ite, shape}
 use Rattle.shapes.specs.Shows.{Standing}
-use Rattle.sorts.specs.Result.{ok}
 use Rattle.sorts.specs.Sort.{levels}
 use Rattle.means.specs.Literal.{Lit, read_with}
 use Rattle.well_sorted.proofs.Results.{refuses, went}
@@ -32,12 +31,12 @@ use Rattle.equality.specs.Singles.{singles_of, singles}
 
 module _ (T : Tables) (ws : List ℕ) where
   -- one level more finds no others
-  module _ (a : ℕ) (most : suc a ≤ levels) (below : (e : Option ℕ) (t : Tree) (l : Lit) (i : ℕ) → read_with T true a e t ≡ ok l → singles T ws a t i ≡ singles T ws (suc a) t i) where
+  module _ (a : ℕ) (most : suc a ≤ levels) (below : (e : Option ℕ) (t : Tree) (l : Lit) (i : ℕ) → read_with T true a e t ≡ Ok l → singles T ws a t i ≡ singles T ws (suc a) t i) where
     branch-stable : (e : Option ℕ) (l : Lit) (c v w : Tree) (i : ℕ) → Chosen T e l a c v w → singles_of T ws (λ t j. singles T ws a t j) i (ite c v w) ≡ singles_of T ws (λ t j. singles T ws (suc a) t j) i (ite c v w)
     branch-stable e l c v w i k =
         rw (decides-of T e l a (omega arith) c v w k) (below e (cond k.truth v w) l (cond k.truth (argument ws i 1) (argument ws i 2)) k.reads)
 
-    shape-stable : (e : Option ℕ) (us : Trees) (l : Lit) (i : ℕ) → read_with T true (suc a) e (app us) ≡ ok l → (s : Shape) → shape us ≡ s → Accepts T a e l s →
+    shape-stable : (e : Option ℕ) (us : Trees) (l : Lit) (i : ℕ) → read_with T true (suc a) e (app us) ≡ Ok l → (s : Shape) → shape us ≡ s → Accepts T a e l s →
         singles_of T ws (λ t j. singles T ws a t j) i s ≡ singles_of T ws (λ t j. singles T ws (suc a) t j) i s
     shape-stable e us l i r uncovered d m = refl
     shape-stable e us l i r (as_none t) d m = refl
@@ -57,7 +56,7 @@ module _ (T : Tables) (ws : List ℕ) where
     shape-stable e us l i r (binary op v w) d m = refl
     shape-stable e us l i r (ite c v w) d m = branch-stable e l c v w i (chosen_of T e l a us c v w d r)
 
-  pub stable : (a : ℕ) → a ≤ levels → (e : Option ℕ) (t : Tree) (l : Lit) (i : ℕ) → read_with T true a e t ≡ ok l → singles T ws a t i ≡ singles T ws (suc a) t i
+  pub stable : (a : ℕ) → a ≤ levels → (e : Option ℕ) (t : Tree) (l : Lit) (i : ℕ) → read_with T true a e t ≡ Ok l → singles T ws a t i ≡ singles T ws (suc a) t i
   unfolding singles read_with
   stable zero most e t l i m = refuses m
   stable (suc a) most e (bit_vec w n) l i m = refl
@@ -67,14 +66,14 @@ module _ (T : Tables) (ws : List ℕ) where
   stable (suc a) most e (app us) l i m = shape-stable a most (λ x u k j q. stable a (omega arith) x u k j q) e us l i m (shape us) refl m
 
   -- they are those of the branch that is left
-  pub along : (a : ℕ) → a ≤ levels → (e : Option ℕ) (t u : Tree) (l : Lit) (i j : ℕ) → read_with T true a e t ≡ ok l → Leads T ws t i u j → singles T ws a t i ≡ singles T ws a u j
+  pub along : (a : ℕ) → a ≤ levels → (e : Option ℕ) (t u : Tree) (l : Lit) (i j : ℕ) → read_with T true a e t ≡ Ok l → Leads T ws t i u j → singles T ws a t i ≡ singles T ws a u j
   unfolding singles read_with
   along zero most e t u l i j m h = refuses m
   along (suc a) most e _ _ l i j m stays = refl
   along (suc a) most e _ u l i j m (takes {us = us} c v w b d s h) =
       let k = chosen_of T e l a us c v w d m in
       let z : k.truth ≡ b = some_one (sym (decides-of T e l a (omega arith) c v w k) ∙ ap (decision T) (sym d) ∙ s) in
-      let r = subst (λ (x : Bool). read_with T true a e (cond x v w) ≡ ok l) z k.reads in
+      let r = subst (λ (x : Bool). read_with T true a e (cond x v w) ≡ Ok l) z k.reads in
       ap (singles_of T ws (λ t n. singles T ws a t n) i) d
       ∙ rw (ap (decision T) (sym d) ∙ s) (stable a (omega arith) e (cond b v w) l (cond b (argument ws i 1) (argument ws i 2)) r)
       ∙ along (suc a) most e (cond b v w) u l (cond b (argument ws i 1) (argument ws i 2)) j (deeper T true a e (cond b v w) l r) h
@@ -87,8 +86,8 @@ wider : (f e first end : ℕ) → first ≤ f → e ≤ end → (ns : List ℕ) 
 wider f e first end p q ns h = every_map (Bound f e) (Bound first end) (λ n b. let x = b.0 in let y = b.1 in (omega arith, omega arith)) ns h
 
 module _ (T : Tables) (ws ts : List ℕ) where
-  module _ (a : ℕ) (most : suc a ≤ levels) (below : (e : Option ℕ) (t : Tree) (l : Lit) (i : ℕ) (s : Standing t ws ts i) → read_with T true a e t ≡ ok l → Every (Bound i s.next) (singles T ws a t i))
-      (e : Option ℕ) (us : Trees) (l : Lit) (i : ℕ) (s : Standing (app us) ws ts i) (r : read_with T true (suc a) e (app us) ≡ ok l) where
+  module _ (a : ℕ) (most : suc a ≤ levels) (below : (e : Option ℕ) (t : Tree) (l : Lit) (i : ℕ) (s : Standing t ws ts i) → read_with T true a e t ≡ Ok l → Every (Bound i s.next) (singles T ws a t i))
+      (e : Option ℕ) (us : Trees) (l : Lit) (i : ℕ) (s : Standing (app us) ws ts i) (r : read_with T true (suc a) e (app us) ≡ Ok l) where
     abbrev Bounded : Shape → Type 0
     Bounded x = Every (Bound i s.next) (singles_of T ws (λ t j. singles T ws a t j) i x)
 
@@ -124,7 +123,7 @@ module _ (T : Tables) (ws ts : List ℕ) where
         (argument ws i 0) (argument ws i 1) (argument ws i 2) refl refl refl in
         rw (decides-of T e l a (omega arith) c v w k) (go k.truth z k.reads)
       where
-        go : (b : Bool) → Three ws ts c v w i s.next (argument ws i 0) (argument ws i 1) (argument ws i 2) → read_with T true a e (cond b v w) ≡ ok l →
+        go : (b : Bool) → Three ws ts c v w i s.next (argument ws i 0) (argument ws i 1) (argument ws i 2) → read_with T true a e (cond b v w) ≡ Ok l →
             Every (Bound i s.next) (singles T ws a (cond b v w) (cond b (argument ws i 1) (argument ws i 2)))
         go true z m =
             let h = z.head in
@@ -159,7 +158,7 @@ module _ (T : Tables) (ws ts : List ℕ) where
     shape-bounded (binary op v w) d m = none
     shape-bounded (ite c v w) d m = branch-bounded c v w d (chosen_of T e l a us c v w d r)
 
-  pub bounded : (a : ℕ) → a ≤ levels → (e : Option ℕ) (t : Tree) (l : Lit) (i : ℕ) (s : Standing t ws ts i) → read_with T true a e t ≡ ok l → Every (Bound i s.next) (singles T ws a t i)
+  pub bounded : (a : ℕ) → a ≤ levels → (e : Option ℕ) (t : Tree) (l : Lit) (i : ℕ) (s : Standing t ws ts i) → read_with T true a e t ≡ Ok l → Every (Bound i s.next) (singles T ws a t i)
   unfolding singles read_with
   bounded zero most e t l i s m = refuses m
   bounded (suc a) most e (bit_vec w n) l i s m = none

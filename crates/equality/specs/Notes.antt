@@ -1,6 +1,5 @@
 -- Document 02, R-2, `=` of sets: what the calls leave that note the members of a set at a node: bits of its own `set.singleton`s, and what operators gave stays.
-use Rattle.std.specs.Prelude.{◌≡◌, Bool, false, List, map, ℕ, suc, ◌*◌, ◌≤◌, length}
-use Rattle.std.proofs.Math.Option.{Option}
+use Rattle.std.specs.Prelude.{◌≡◌, Bool, false, List, map, ℕ, suc, ◌*◌, ◌≤◌, length, Option}
 use Rattle.ground.specs.Lists.{all}
 use Rattle.tables.specs.Sort.{Tables}
 use Rattle.sorts.specs.Sort.{levels}

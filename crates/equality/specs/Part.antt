@@ -1,6 +1,5 @@
 -- Document 01, "Sorts and literals", `set.empty`, `set.singleton`, `set.union`: what a set at a node is made of, once branches are taken.
-use Rattle.std.specs.Prelude.{◌≡◌, List, ℕ, suc, ◌+◌, ◌≤◌}
-use Rattle.std.proofs.Math.Option.{Option}
+use Rattle.std.specs.Prelude.{◌≡◌, List, ℕ, suc, ◌+◌, ◌≤◌, Option}
 use Rattle.tables.specs.Sort.{Tables}
 use Rattle.shapes.specs.Shape.{as_empty, singleton, union, shape}
 use Rattle.arena.specs.Tree.{Tree, Trees, app}

@@ -1,6 +1,5 @@
 -- Document 02, R-2, `=` of sets by their members: where the `set.singleton`s of a set stand, one for each member as it was written, and what is noted of them.
-use Rattle.std.specs.Prelude.{Bool, cond, List, [], ◌∷◌, ◌++◌, map, ℕ, zero, suc}
-use Rattle.std.proofs.Math.Option.{Option, none, some}
+use Rattle.std.specs.Prelude.{Bool, cond, List, [], ◌∷◌, ◌++◌, map, ℕ, zero, suc, None, Option, Some}
 use Rattle.arena.specs.Tree.{Tree, bit_vec, numeral, string, symbol, app}
 use Rattle.tables.specs.Sort.{Tables}
 use Rattle.shapes.specs.Shape.{Shape, uncovered, as_none, as_some, some_of, as_empty, singleton, union, extension, indexed, made, other, unary, binary, ite, shape}
@@ -10,8 +9,8 @@ use Rattle.settled.specs.Taken.{argument}
 
 module _ (T : Tables) (ws : List ℕ) where
   abbrev pub by_branch : (Tree → ℕ → List ℕ) → ℕ → Tree → Tree → Option Bool → List ℕ
-  by_branch below i v w none = []
-  by_branch below i v w (some b) = below (cond b v w) (cond b (argument ws i 1) (argument ws i 2))
+  by_branch below i v w None = []
+  by_branch below i v w (Some b) = below (cond b v w) (cond b (argument ws i 1) (argument ws i 2))
 
   abbrev pub singles_of : (Tree → ℕ → List ℕ) → ℕ → Shape → List ℕ
   singles_of below i uncovered = []

@@ -1,7 +1,7 @@
 // What a set is made of.
 ghost use Rattle.equality.specs.Part.{PartAt};
 
-use shapes::{Found, Parts, list_at, shape_at};
+use shapes::{Found, list_at, shape_at};
 
 #[derive(Clone, Copy)]
 pub enum Part {
@@ -16,7 +16,7 @@ pub fn part_at(nodes: &[u64], text: &[u8], at: usize) -> Part
     ensures { PartAt nodes.now text.now at result }
 {
     let list = list_at(nodes, at);
-    let Parts::Children(_) = list else {
+    let Some(_) = list else {
         return Part::NoSet;
     };
     let shape = shape_at(nodes, text, at);

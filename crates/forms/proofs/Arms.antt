@@ -1,9 +1,9 @@
 -- An accepted application: the value that it is, by its shape, and what was read below it.
 -- Assumes nothing.
+use Rattle.std.proofs.Common.{None, Option, Some, Ok, Result}
 use mathlib.Core.Path.{◌≡◌, refl, sym, ap, ◌∙◌, subst}
 use mathlib.Core.Bool.{Bool, true, false, ◌&&◌, true≢false}
 use mathlib.Core.List.{List, [], ◌∷◌}
-use mathlib.Core.Option.{Option, none, some}
 use Prim.Native.Nat.{ℕ, suc, ◌%◌, ◌^◌, ◌≤◌, ◌<◌}
 use native.Mathlib.Nat.{lt_of_lt_of_le}
 use lib.Dec.{leb, ltb}
@@ -14,13 +14,12 @@ use Rattle.ground.proofs.Tests.{by_test, by_order}
 use Rattle.refusals.specs.declared.Refusal.TheVariants.{IntegerOverflow, ZeroWidthBitVec, UnmatchedType, UnmatchedFieldType}
 use Rattle.words.specs.declared.digits.Radix.{Radix}
 use Rattle.words.specs.Extension.{signed}
-use Rattle.words.specs.Run.{number, parsed}
+use Rattle.words.specs.Run.{parsed}
 use Rattle.arena.specs.Tree.{Tree, Trees, bit_vec as bits, numeral, string as quoted, symbol, app, nil, cons}
 use Rattle.tables.specs.Sort.{Ext, Tables}
 use Rattle.shapes.specs.declared.shape.BinaryOp.{BinaryOp}
 use Rattle.shapes.specs.declared.shape.UnaryOp.{UnaryOp}
 use Rattle.shapes.specs.Shape.{Shape, unary, binary, as_none, as_some, some_of, as_empty, singleton, union, extension, indexed, shape}
-use Rattle.sorts.specs.Result.{Result, ok}
 use Rattle.sorts.specs.Sort.{read_sort, levels}
 use Rattle.values.specs.Holds.{truth_of}
 use Rattle.values.specs.Value.{Value, Values, v_bool, v_ext, v_bits, v_none, v_some, v_set, v_entity, v_nil, v_cons, union as both}
@@ -31,6 +30,7 @@ use Rattle.settled.proofs.Takes.{at-levels}
 use Rattle.well_sorted.proofs.Fits.{number_fits}
 use Rattle.well_sorted.proofs.Readings.{unary_bool, binary_bool}
 use Rattle.forms.specs.Form.{Listed, l_nil, l_cons}
+use Rattle.refusals.specs.declared.Refusal.{Refusal}
 
 width_fits : (w n : ℕ) → (ltb w 128 && leb (2 ^ w) n) ≡ false → n < 2 ^ 128 → n < 2 ^ w
 width_fits w n h f =
@@ -42,12 +42,12 @@ width_fits w n h f =
 pub record Inner (T : Tables) (a : ℕ) (v : Tree) (whole : Value) : Type 0 where
   pub expected : Option ℕ
   pub inner : Lit
-  pub was : read_with T true a expected v ≡ ok inner
+  pub was : read_with T true a expected v ≡ Ok inner
   pub is : whole ≡ v_some inner.value
 
 pub record Numbered (ds : List ℕ) (w : ℕ) (whole : Value) : Type 0 where
   pub number : ℕ
-  pub was : numbered (parsed Radix.Decimal (unsigned ds)) ≡ ok number
+  pub was : numbered (parsed Radix.Decimal (unsigned ds)) ≡ Ok number
   pub small : w < 2 ^ 32
   pub fits : number < 2 ^ w
   pub is : whole ≡ v_bits w number
@@ -55,18 +55,18 @@ pub record Numbered (ds : List ℕ) (w : ℕ) (whole : Value) : Type 0 where
 -- what an operator gives, as it is remembered
 pub record Decided (T : Tables) (s : Shape) (whole : Value) : Type 0 where
   pub truth : Bool
-  pub decides : decision T s ≡ some truth
+  pub decides : decision T s ≡ Some truth
   pub is : whole ≡ v_bool truth
 
 module _ (T : Tables) (a : ℕ) (e : Option ℕ) (k : Lit) where
   abbrev pub Accepts : Shape → Type 0
-  Accepts s = app_lit T (λ t. read_sort T a t) (λ x u. read_with T true a x u) true e s ≡ ok k
+  Accepts s = app_lit T (λ t. read_sort T a t) (λ x u. read_with T true a x u) true e s ≡ Ok k
 
-  pub app-accepts : (us : Trees) → read_with T true (suc a) e (app us) ≡ ok k → Accepts (shape us)
+  pub app-accepts : (us : Trees) → read_with T true (suc a) e (app us) ≡ Ok k → Accepts (shape us)
   unfolding read_with
   app-accepts us m = m
 
-  value-is : {l : Lit} → ◌≡◌ {A = Result Lit} (ok l) (ok k) → k.value ≡ l.value
+  value-is : {l : Lit} → ◌≡◌ {A = Result Lit Refusal} (Ok l) (Ok k) → k.value ≡ l.value
   value-is m = ap (λ (l : Lit). l.value) (sym (ok_same m))
 
   pub is_none : (t : Tree) → Accepts (as_none t) → k.value ≡ v_none
@@ -134,8 +134,8 @@ module _ (T : Tables) (a : ℕ) (e : Option ℕ) (k : Lit) where
       })
 
   module _ (most : a ≤ levels) where
-    operand-is : (v : Tree) (l : Lit) → read_with T true a none v ≡ ok l → kept (read_with T true levels none v) ≡ some l
-    operand-is v l m = ap kept (at-levels T true a none v l most m)
+    operand-is : (v : Tree) (l : Lit) → read_with T true a None v ≡ Ok l → kept (read_with T true levels None v) ≡ Some l
+    operand-is v l m = ap kept (at-levels T true a None v l most m)
 
     pub is-unary : (op : UnaryOp) (v : Tree) → Accepts (unary op v) → Decided T (unary op v) k.value
     is-unary op v m =
@@ -164,7 +164,7 @@ module _ (T : Tables) (a : ℕ) (e : Option ℕ) (k : Lit) where
         record {
           truth = b.0;
           decides =
-              ap (λ (r : Option Lit). over r (λ l. over (kept (read_with T true levels none u)) (λ n. over (binary_of op l n) truth_of))) (operand-is v w.got w.first)
+              ap (λ (r : Option Lit). over r (λ l. over (kept (read_with T true levels None u)) (λ n. over (binary_of op l n) truth_of))) (operand-is v w.got w.first)
               ∙ ap (λ (r : Option Lit). over r (λ n. over (binary_of op w.got n) truth_of)) (operand-is u y.got y.first)
               ∙ ap (λ (r : Option Value). over r truth_of) o
               ∙ ap truth_of b.1;
@@ -172,7 +172,7 @@ module _ (T : Tables) (a : ℕ) (e : Option ℕ) (k : Lit) where
         }
 
   -- an entity's text
-  pub is-entity : (row : ℕ) (us : Trees) → entity_lit row us ≡ ok k → (s : List ℕ) × (us ≡ cons (quoted s) nil) × (k.value ≡ v_entity row s)
+  pub is-entity : (row : ℕ) (us : Trees) → entity_lit row us ≡ Ok k → (s : List ℕ) × (us ≡ cons (quoted s) nil) × (k.value ≡ v_entity row s)
   is-entity row nil m = refuses m
   is-entity row (cons (bits w n) us) m = refuses m
   is-entity row (cons (numeral n) us) m = refuses m
@@ -182,7 +182,7 @@ module _ (T : Tables) (a : ℕ) (e : Option ℕ) (k : Lit) where
   is-entity row (cons (app ts) us) m = refuses m
 
 -- the fields of a record
-pub listed : (T : Tables) (a : ℕ) (fs : List ℕ) (us : Trees) (vs : Values) → same_count fs us ≡ true → fields_of (λ x u. read_with T true a x u) fs us ≡ ok vs → Listed T a us vs
+pub listed : (T : Tables) (a : ℕ) (fs : List ℕ) (us : Trees) (vs : Values) → same_count fs us ≡ true → fields_of (λ x u. read_with T true a x u) fs us ≡ Ok vs → Listed T a us vs
 listed T a [] nil vs c m = subst (λ (k : Values). Listed T a nil k) (ok_same m) l_nil
 listed T a [] (cons u us) vs c m = absurd (true≢false (sym c))
 listed T a (f ∷ fs) nil vs c m = absurd (true≢false (sym c))
@@ -190,4 +190,4 @@ listed T a (f ∷ fs) (cons u us) vs c m =
     let w = went _ _ vs m in
     let q = passed _ UnmatchedFieldType _ vs w.next in
     let z = went _ _ vs q.1 in
-    subst (λ (k : Values). Listed T a (cons u us) k) (ok_same z.next) (l_cons (some f) w.got w.first (listed T a fs us z.got c z.first))
+    subst (λ (k : Values). Listed T a (cons u us) k) (ok_same z.next) (l_cons (Some f) w.got w.first (listed T a fs us z.got c z.first))

@@ -1,9 +1,9 @@
 -- Values without another one in them: what is told of them, and what they are.
 -- Assumes nothing.
+use Rattle.std.proofs.Common.{None, Option, Some, Err, Ok, Result}
 use mathlib.Core.Path.{◌≡◌, refl, sym, ap, ap₂, ◌∙◌, subst}
 use mathlib.Core.Bool.{Bool, true, false, true≢false}
 use mathlib.Core.List.{List, [], ◌∷◌}
-use mathlib.Core.Option.{Option, none, some}
 use Prim.Native.Nat.{ℕ, ◌-◌, ◌%◌, ◌^◌}
 use Prim.Native.String.{String}
 use native.Mathlib.Omega.{arith}
@@ -16,7 +16,6 @@ use Rattle.ground.specs.Bytes.{bytes}
 use Rattle.ground.specs.Lists.{at}
 use Rattle.tables.proofs.Places.{length-tabulate, at-tabulate, find-within}
 use Rattle.refusals.specs.declared.Refusal.{Refusal}
-use Rattle.words.specs.declared.digits.Parsed.{Parsed}
 use Rattle.words.specs.declared.digits.Radix.{Radix}
 use Rattle.words.specs.declared.pair.Pair.{Pair}
 use Rattle.words.specs.Pair.{value}
@@ -26,7 +25,6 @@ use Rattle.arena.specs.Node.{node_at}
 use Rattle.arena.specs.Text.{text_at, same_text}
 use Rattle.arena.specs.Tree.{string as quoted}
 use Rattle.arena.specs.contracts.node.Node as NodeType
-use Rattle.tables.specs.declared.find.Found.{Found}
 use Rattle.tables.specs.declared.row.Range.{Range}
 use Rattle.tables.specs.Find.{found as found_as, member_row}
 use Rattle.tables.specs.Layout.{Lent, count, word, part, member_at, tables_of}
@@ -35,7 +33,6 @@ use Rattle.tables.specs.Range.{Clamps}
 use Rattle.tables.specs.Sort.{Sort, bool, Member}
 use Rattle.tables.proofs.Ranges.{length_clamped}
 use Rattle.shapes.specs.Shows.{Standing, Reads}
-use Rattle.sorts.specs.Result.{Result, ok}
 use Rattle.values.specs.Value.{Value, v_bool, v_bits, v_entity}
 use Rattle.means.specs.Literal.{Lit, unsigned, numbered, lit_of, member_lit, at_row, word_lit}
 use Rattle.well_sorted.proofs.Results.{refuses, ok_same, went}
@@ -57,13 +54,13 @@ unsigned-bare [] h e = refl
 unsigned-bare (b ∷ bs) h e = rw (ne_eqb b 43 e)
 
 -- (_ bvN W)
-module _ (digits slice : List ℕ) (w : ℕ) (s : slice ≡ digits) (p : Parsed) (e : p ≡ parsed Radix.Decimal (unsigned slice)) where
-  pub indexed-number : (pair : Pair) → p ≡ Parsed.Number pair → IndexedForm digits w (Form.Bits w pair.low pair.high)
+module _ (digits slice : List ℕ) (w : ℕ) (s : slice ≡ digits) (p : Result Pair Refusal) (e : p ≡ parsed Radix.Decimal (unsigned slice)) where
+  pub indexed-number : (pair : Pair) → p ≡ Ok pair → IndexedForm digits w (Form.Bits w pair.low pair.high)
   indexed-number pair k n g ts names T ms ws below i last =
       let v : value pair ≡ n = ok_same (ap numbered (sym k ∙ e ∙ ap (λ (t : List ℕ). parsed Radix.Decimal (unsigned t)) s) ∙ g) in
       ap (λ (m : ℕ). v_bits w (m % 2 ^ w)) (sym v)
 
-  pub indexed-refused : (why : Refusal) → p ≡ Parsed.Refused why → IndexedForm digits w Form.NoForm
+  pub indexed-refused : (why : Refusal) → p ≡ Err why → IndexedForm digits w Form.NoForm
   indexed-refused why k n g ts names T ms ws below i last = refuses (ap numbered (sym k ∙ e ∙ ap (λ (t : List ℕ). parsed Radix.Decimal (unsigned t)) s) ∙ g)
 
 -- a string at a node, and no string
@@ -112,15 +109,15 @@ member-words members names i row first size range e f s c ts T ms ws below j las
     )
 
 -- what a search answered
-pub found-row : (o : Option ℕ) (q : Found) (row : ℕ) → q ≡ found_as o → q ≡ Found.Row row → o ≡ some row
-found-row none q row h k = let z : ◌≡◌ {A = Found} Found.NoRow (Found.Row row) = sym h ∙ k in let y : ◌≡◌ {A = ℕ} 0 1 = cc in absurd (omega arith)
-found-row (some r) q row h k = let z : ◌≡◌ {A = Found} (Found.Row r) (Found.Row row) = sym h ∙ k in let y : r ≡ row = cc in ap some y
+pub found-row : (o : Option ℕ) (q : Option ℕ) (row : ℕ) → q ≡ found_as o → q ≡ Some row → o ≡ Some row
+found-row None q row h k = let z : ◌≡◌ {A = (Option ℕ)} None (Some row) = sym h ∙ k in let y : ◌≡◌ {A = ℕ} 0 1 = cc in absurd (omega arith)
+found-row (Some r) q row h k = let z : ◌≡◌ {A = (Option ℕ)} (Some r) (Some row) = sym h ∙ k in let y : r ≡ row = cc in ap Some y
 
-pub found_none : (o : Option ℕ) (q : Found) → q ≡ found_as o → q ≡ Found.NoRow → o ≡ none
-found_none none q h k = refl
-found_none (some r) q h k = let z : ◌≡◌ {A = Found} (Found.Row r) Found.NoRow = sym h ∙ k in let y : ◌≡◌ {A = ℕ} 0 1 = cc in absurd (omega arith)
+pub found_none : (o : Option ℕ) (q : Option ℕ) → q ≡ found_as o → q ≡ None → o ≡ None
+found_none None q h k = refl
+found_none (Some r) q h k = let z : ◌≡◌ {A = (Option ℕ)} (Some r) None = sym h ∙ k in let y : ◌≡◌ {A = ℕ} 0 1 = cc in absurd (omega arith)
 
-pub member-place : (l : Lent) (name : List ℕ) (row : ℕ) → member_row (tables_of l) name ≡ some row → at (tables_of l).members row ≡ some (member_at l row)
+pub member-place : (l : Lent) (name : List ℕ) (row : ℕ) → member_row (tables_of l) name ≡ Some row → at (tables_of l).members row ≡ Some (member_at l row)
 unfolding member_row tables_of
 member-place l name row e =
     let h = find-within (λ (m : Member). same_text name m.name) (tables_of l).members row e in
@@ -131,7 +128,7 @@ module _ (members names name : List ℕ) where
   abbrev Is : String → Bool → Type 0
   Is this t = same_text name (bytes this) ≡ t
 
-  lit-value : (l : Lent) (s : Sort) (v : Value) (k : Lit) → lit_of (tables_of l) s v ≡ ok k → k.value ≡ v
+  lit-value : (l : Lent) (s : Sort) (v : Value) (k : Lit) → lit_of (tables_of l) s v ≡ Ok k → k.value ≡ v
   lit-value l s v k e = let w = went _ _ k e in ap (λ (x : Lit). x.value) (sym (ok_same w.next))
 
   pub name_true : Is "true" true → WordForm members names name (Form.Truth true)
@@ -141,23 +138,23 @@ module _ (members names name : List ℕ) where
     pub name_false : Is "false" true → WordForm members names name (Form.Truth false)
     name_false g l m n k e ts T ms ws below i last = lit-value l bool (v_bool false) k (rw (no_true, g) at e)
 
-    module _ (no_false : Is "false" false) (q : Found) (found : FindsMember members names name q) where
-      abbrev member_of : Lent → Option ℕ → Result Lit
+    module _ (no_false : Is "false" false) (q : Option ℕ) (found : FindsMember members names name q) where
+      abbrev member_of : Lent → Option ℕ → Result Lit Refusal
       member_of l o = member_lit (tables_of l) (at_row (tables_of l) (tables_of l).members o)
 
-      is_member : (l : Lent) (k : Lit) → word_lit (tables_of l) name ≡ ok k → member_of l (member_row (tables_of l) name) ≡ ok k
+      is_member : (l : Lent) (k : Lit) → word_lit (tables_of l) name ≡ Ok k → member_of l (member_row (tables_of l) name) ≡ Ok k
       is_member l k e = rw (no_true, no_false) at e
 
-      pub name-member : (row : ℕ) → q ≡ Found.Row row → (r : Form) → MemberForm members names row r → WordForm members names name r
+      pub name-member : (row : ℕ) → q ≡ Some row → (r : Form) → MemberForm members names row r → WordForm members names name r
       name-member row e r f l m n k w ts T ms ws below i last =
           let o = found-row (member_row (tables_of l) name) q row (found l m n) e in
-          let p : member_lit (tables_of l) (some (member_at l row)) ≡ ok k =
+          let p : member_lit (tables_of l) (Some (member_at l row)) ≡ Ok k =
           sym (ap (member_of l) o ∙ ap (member_lit (tables_of l)) (member-place l name row o)) ∙ is_member l k w in
           let v : v_entity (word members row 2) (part names (word members row 3) (word members row 4)) ≡ k.value =
           ap₂ (λ (xs ys : List ℕ). v_entity (word xs row 2) (part ys (word xs row 3) (word xs row 4))) (sym m) (sym n) ∙ ap (λ (x : Lit). x.value) (ok_same p) in
           subst (λ (x : Value). Says T ms ws ts names below i last x r) v (f ts T ms ws below i last)
 
-      pub name-unknown : q ≡ Found.NoRow → WordForm members names name Form.NoForm
+      pub name-unknown : q ≡ None → WordForm members names name Form.NoForm
       name-unknown e l m n k w ts T ms ws below i last = refuses (sym (ap (member_of l) (found_none (member_row (tables_of l) name) q (found l m n) e)) ∙ is_member l k w)
 
 pub word_as : (members names name slice : List ℕ) (r : Form) → slice ≡ name → WordForm members names slice r → WordForm members names name r

@@ -1,9 +1,9 @@
 -- What a value is, by the node that stands there.
 -- Assumes nothing.
+use Rattle.std.proofs.Common.{Option, Ok}
 use mathlib.Core.Path.{◌≡◌, refl, sym, ap, ◌∙◌, subst}
 use mathlib.Core.Bool.{true, false}
 use mathlib.Core.List.{List, [], ◌∷◌}
-use mathlib.Core.Option.{Option}
 use Prim.Native.Nat.{ℕ, suc, ◌+◌, ◌*◌, ◌/◌, ◌%◌, ◌^◌, ◌≤◌}
 use native.Mathlib.Omega.{arith}
 use types.Run.{OneOf, miss}
@@ -15,7 +15,6 @@ use Rattle.arena.specs.Tree.{Tree, Trees, bit_vec as bits, numeral, string as qu
 use Rattle.arena.specs.contracts.node.Node as NodeType
 use Rattle.tables.specs.Layout.{Lent, tables_of}
 use Rattle.shapes.specs.Shows.{Standing, Reads}
-use Rattle.sorts.specs.Result.{ok}
 use Rattle.sorts.specs.Sort.{levels}
 use Rattle.values.specs.Value.{v_bits}
 use Rattle.means.specs.Literal.{Lit, read_with}
@@ -46,7 +45,7 @@ tells ws ts i (app us) s = subst (λ (x : Node). Tells ts x (app us)) (sym s.the
 module _ (sorts members names ws ts ms : List ℕ) (i : ℕ) (n : Node) (there : n ≡ node_at ws i) where
   -- of a tree that stands there
   abbrev Of : Lent → ℕ → Option ℕ → Lit → Form → Tree → Type 0
-  Of l below e k r t = (s : Standing t ws ts i) → read_with (tables_of l) true (suc below) e t ≡ ok k → is_ite t ≡ false → Settled (tables_of l) ms ws ts i s.next →
+  Of l below e k r t = (s : Standing t ws ts i) → read_with (tables_of l) true (suc below) e t ≡ Ok k → is_ite t ≡ false → Settled (tables_of l) ms ws ts i s.next →
       Says (tables_of l) ms ws ts names below i s.next k.value r
 
   abbrev Arm : Form → Node → Type 0
@@ -60,7 +59,7 @@ module _ (sorts members names ws ts ms : List ℕ) (i : ℕ) (n : Node) (there :
   pub node-bits : (w low high : ℕ) → n ≡ Node.BitVec w low high → FormAt sorts members names ws ts ms i (Form.Bits w low high)
   unfolding read_with
   node-bits w low high e = by-node (Form.Bits w low high) (Node.BitVec w low high) e (λ l g t d below y k most s m plain st.
-      let q = went _ _ k (subst (λ (x : Tree). read_with (tables_of l) true (suc below) y x ≡ ok k) d.1 m) in
+      let q = went _ _ k (subst (λ (x : Tree). read_with (tables_of l) true (suc below) y x ≡ Ok k) d.1 m) in
       let z : low + high * 2 ^ 64 ≡ d.0 = whole d.0 low high d.2 d.3 in
       sym (ap (λ (x : ℕ). v_bits w (x % 2 ^ w)) z ∙ ap (λ (x : Lit). x.value) (ok_same q.next)))
     where
@@ -70,13 +69,13 @@ module _ (sorts members names ws ts ms : List ℕ) (i : ℕ) (n : Node) (there :
   pub node-string : (size offset : ℕ) → n ≡ Node.String size offset → FormAt sorts members names ws ts ms i (Form.Text offset size)
   unfolding read_with
   node-string size offset e = by-node (Form.Text offset size) (Node.String size offset) e (λ l g t d below y k most s m plain st.
-      let q = went _ _ k (subst (λ (x : Tree). read_with (tables_of l) true (suc below) y x ≡ ok k) d.1 m) in
+      let q = went _ _ k (subst (λ (x : Tree). read_with (tables_of l) true (suc below) y x ≡ Ok k) d.1 m) in
       (d.0, d.2, ap (λ (x : Lit). x.value) (sym (ok_same q.next))))
 
   pub node-word : (size offset : ℕ) → n ≡ Node.Symbol size offset → (r : Form) → WordForm members names (text_at ts offset size) r → FormAt sorts members names ws ts ms i r
   unfolding read_with
   node-word size offset e r f = by-node r (Node.Symbol size offset) e (λ l g t d below y k most s m plain st.
-      let m' = subst (λ (x : Tree). read_with (tables_of l) true (suc below) y x ≡ ok k) d.1 m in
+      let m' = subst (λ (x : Tree). read_with (tables_of l) true (suc below) y x ≡ Ok k) d.1 m in
       subst (λ (x : List ℕ). WordForm members names x r) d.2 f l g.members-are g.names-are k m' ts (tables_of l) ms ws below i s.next)
 
   pub node-app : (many next : ℕ) → n ≡ Node.App many next → (r : Form) → AppForm sorts names ws ts ms i r → FormAt sorts members names ws ts ms i r
@@ -86,7 +85,7 @@ module _ (sorts members names ws ts ms : List ℕ) (i : ℕ) (n : Node) (there :
   -- a numeral is no literal
   pub node-other : OneOf (1 ∷ 5 ∷ []) (tag_of NodeType.the_type n) → FormAt sorts members names ws ts ms i Form.NoForm
   unfolding read_with
-  node-other h = by-node Form.NoForm n refl (λ l g t d below y k most s m plain st. go n h t d (λ j e. refuses (subst (λ (x : Tree). read_with (tables_of l) true (suc below) y x ≡ ok k) e m)))
+  node-other h = by-node Form.NoForm n refl (λ l g t d below y k most s m plain st. go n h t d (λ j e. refuses (subst (λ (x : Tree). read_with (tables_of l) true (suc below) y x ≡ Ok k) e m)))
     where
       go : (n : Node) → OneOf (1 ∷ 5 ∷ []) (tag_of NodeType.the_type n) → (t : Tree) → Tells ts n t → ((j : ℕ) → t ≡ numeral j → ⊥) → ⊥
       go (Node.BitVec w low high) h t d f = miss (1 ∷ 5 ∷ []) 0 tt h

@@ -1,9 +1,9 @@
 -- Where the arguments of an application stand: behind its head, up to its end.
 -- Assumes nothing.
+use Rattle.std.proofs.Common.{Option, Ok}
 use mathlib.Core.Path.{◌≡◌, refl, sym, ◌∙◌, subst}
 use mathlib.Core.Bool.{true}
 use mathlib.Core.List.{List}
-use mathlib.Core.Option.{Option}
 use Prim.Native.Nat.{ℕ, ◌+◌, ◌≤◌, ◌<◌}
 use native.Mathlib.Omega.{arith}
 use Rattle.arena.specs.Node.{after_at}
@@ -13,7 +13,6 @@ use Rattle.arena.proofs.Layouts.{stands_after, stands-longer}
 use Rattle.tables.specs.Sort.{Tables}
 use Rattle.shapes.specs.Shape.{Shape, unary, binary, ite, uncovered, as_none, as_some, some_of, as_empty, singleton, union, extension, indexed, made, other, shape}
 use Rattle.shapes.specs.Shows.{Standing}
-use Rattle.sorts.specs.Result.{ok}
 use Rattle.means.specs.Literal.{Lit, read_with}
 use Rattle.settled.specs.Settled.{Settled}
 use Rattle.settled.specs.Taken.{Stood}
@@ -79,7 +78,7 @@ module _ (T : Tables) (ms ws ts : List ℕ) where
   settled_in i last j k h p q n x y us s b d = h n (omega arith) (omega arith) us s b d
 
   -- one argument
-  pub stood-behind : (below i last n : ℕ) (v : Tree) (e : Option ℕ) (l : Lit) → Behind (cons v nil) ws ts i n last → read_with T true below e v ≡ ok l → Settled T ms ws ts i last →
+  pub stood-behind : (below i last n : ℕ) (v : Tree) (e : Option ℕ) (l : Lit) → Behind (cons v nil) ws ts i n last → read_with T true below e v ≡ Ok l → Settled T ms ws ts i last →
       Stood T ms ws ts below e l (i + 1) last n
   stood-behind below i last n v e l b m h =
       let f = b.behind in

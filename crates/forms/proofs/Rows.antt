@@ -1,9 +1,9 @@
 -- (NAME ..): an entity or a record by NAME's row, and no other row's name is read.
 -- Assumes nothing.
+use Rattle.std.proofs.Common.{None, Option, Some, Ok}
 use mathlib.Core.Path.{◌≡◌, refl, sym, ap, ◌∙◌, subst}
 use mathlib.Core.Bool.{true}
 use mathlib.Core.List.{List, [], ◌∷◌}
-use mathlib.Core.Option.{Option, none, some}
 use Prim.Native.Nat.{ℕ}
 use native.Mathlib.Omega.{arith}
 use types.Run.{OneOf, miss}
@@ -12,7 +12,6 @@ use Rattle.ground.specs.Lists.{at}
 use Rattle.refusals.specs.declared.Refusal.TheVariants.{UnknownLiteral, UnmatchedRecordType}
 use Rattle.arena.specs.Text.{text_at}
 use Rattle.arena.specs.Tree.{Trees, string as quoted, nil}
-use Rattle.tables.specs.declared.find.Found.{Found}
 use Rattle.tables.specs.declared.sort.SortRow.{SortRow}
 use Rattle.tables.specs.Find.{named_sort}
 use Rattle.tables.specs.Layout.{Lent, part, tables_of}
@@ -23,7 +22,6 @@ use Rattle.tables.proofs.Sorts.{row-meant}
 use Rattle.tables.specs.contracts.sort.SortRow as RowType
 use Rattle.shapes.specs.Shows.{StandingAll}
 use Rattle.shapes.proofs.Stood.{first_of}
-use Rattle.sorts.specs.Result.{ok}
 use Rattle.sorts.specs.Sort.{read_sort}
 use Rattle.values.specs.Value.{Value}
 use Rattle.tables.proofs.Places.{some_one}
@@ -38,7 +36,7 @@ use Rattle.forms.proofs.Parts.{settled_in}
 
 -- the arguments, where the row's sort is this
 abbrev Made : Lent → ℕ → Trees → Lit → ℕ → Option Sort → Type 0
-Made l below us k row o = made_row (tables_of l) (λ t. read_sort (tables_of l) below t) (λ e u. read_with (tables_of l) true below e u) row o us ≡ ok k
+Made l below us k row o = made_row (tables_of l) (λ t. read_sort (tables_of l) below t) (λ e u. read_with (tables_of l) true below e u) row o us ≡ Ok k
 
 module _ (sorts ws : List ℕ) (row first many : ℕ) (q : SortRow) (there : q ≡ sort_row_at sorts row) where
   meaning : (l : Lent) → l.sorts ≡ sorts → at (tables_of l).sorts row ≡ meant l row q
@@ -46,7 +44,7 @@ module _ (sorts ws : List ℕ) (row first many : ℕ) (q : SortRow) (there : q �
 
   pub row-entity : q ≡ SortRow.Entity → (r : Form) → EntityForm ws row first r → RowForm sorts ws row first many r
   row-entity e r f l h us ts s ms names below i k m b st =
-      let z = is-entity (tables_of l) below none k row us (subst (Made l below us k row) (meaning l h ∙ ap (meant l row) e) m) in
+      let z = is-entity (tables_of l) below None k row us (subst (Made l below us k row) (meaning l h ∙ ap (meant l row) e) m) in
       let p = first_of ws ts (quoted z.0) nil first many (subst (λ (y : Trees). StandingAll y ws ts first many) z.1 s) in
       subst (λ (v : Value). Says (tables_of l) ms ws ts names below i s.next v r) (sym z.2) (f ts z.0 p names (tables_of l) ms ws below i s.next)
 
@@ -82,18 +80,18 @@ module _ (sorts ws : List ℕ) (row first many : ℕ) (q : SortRow) (there : q �
       go SortRow.NoRow h m = refuses m
 
 -- where NAME is the text there
-module _ (sorts names ws ts : List ℕ) (offset size first many : ℕ) (slice : List ℕ) (is : slice ≡ text_at ts offset size) (q : Found) (found : FindsNamed sorts names slice q) where
-  pub made_found : (row : ℕ) → q ≡ Found.Row row → (r : Form) → RowForm sorts ws row first many r → MadeForm sorts names ws ts offset size first many r
+module _ (sorts names ws ts : List ℕ) (offset size first many : ℕ) (slice : List ℕ) (is : slice ≡ text_at ts offset size) (q : Option ℕ) (found : FindsNamed sorts names slice q) where
+  pub made_found : (row : ℕ) → q ≡ Some row → (r : Form) → RowForm sorts ws row first many r → MadeForm sorts names ws ts offset size first many r
   made_found row e r h l p n f us d s ms below i x k m b st =
       let w = went _ _ k m in
       let o = found-row (named_sort (tables_of l) slice) q row (found l p n) e in
       let z : w.got ≡ row = some_one (sym (was-found UnknownLiteral (named_sort (tables_of l) f) w.got w.first) ∙ ap (named_sort (tables_of l)) (sym d.bytes ∙ sym is) ∙ o) in
       h l p us ts s ms names below i k (subst (λ (j : ℕ). Made l below us k j (at (tables_of l).sorts j)) z w.next) b st
 
-  pub made_missing : q ≡ Found.NoRow → MadeForm sorts names ws ts offset size first many Form.NoForm
+  pub made_missing : q ≡ None → MadeForm sorts names ws ts offset size first many Form.NoForm
   made_missing e l p n f us d s ms below i x k m b st =
       let w = went _ _ k m in
       let o = found_none (named_sort (tables_of l) slice) q (found l p n) e in
-      let z : ◌≡◌ {A = Option ℕ} (some w.got) none = sym (was-found UnknownLiteral (named_sort (tables_of l) f) w.got w.first) ∙ ap (named_sort (tables_of l)) (sym d.bytes ∙ sym is) ∙ o in
+      let z : ◌≡◌ {A = Option ℕ} (Some w.got) None = sym (was-found UnknownLiteral (named_sort (tables_of l) f) w.got w.first) ∙ ap (named_sort (tables_of l)) (sym d.bytes ∙ sym is) ∙ o in
       let y : ◌≡◌ {A = ℕ} 0 1 = cc in
       absurd (omega arith)

@@ -1,6 +1,5 @@
 -- Document 01, "Sorts and literals", and document 02, R-2: what the value at a node is, once operators are worked out.
-use Rattle.std.specs.Prelude.{◌≡◌, true, false, List, ℕ, suc, ◌+◌, ◌*◌, ◌%◌, ◌^◌, ◌≤◌, ◌<◌}
-use Rattle.std.proofs.Math.Option.{Option}
+use Rattle.std.specs.Prelude.{◌≡◌, true, false, List, ℕ, suc, ◌+◌, ◌*◌, ◌%◌, ◌^◌, ◌≤◌, ◌<◌, Option, Ok}
 use Rattle.ground.specs.Lists.{at}
 use Rattle.words.specs.Extension.{signed}
 use Rattle.arena.specs.Tree.{Tree, Trees, app, nil, cons}
@@ -8,7 +7,6 @@ use Rattle.tables.specs.Layout.{Lent, tables_of}
 use Rattle.tables.specs.Sort.{Tables}
 use Rattle.shapes.specs.Shape.{made, shape}
 use Rattle.shapes.specs.Shows.{Standing, StandingAll, Reads, ext_of}
-use Rattle.sorts.specs.Result.{ok}
 use Rattle.sorts.specs.Sort.{read_sort, levels}
 use Rattle.values.specs.Value.{Value, Values, v_bool, v_string, v_ext, v_bits, v_none, v_some, v_set, v_entity, v_record, v_nil, v_cons}
 use Rattle.means.specs.Literal.{Lit, made_row, app_lit, read_with}
@@ -25,7 +23,7 @@ pub record Given (sorts members names : List ℕ) (l : Lent) : Type 0 where
 -- the trees are read as the values
 pub data Listed (T : Tables) (allow : ℕ) : Trees → Values → Type 0 where
   l_nil : Listed T allow nil v_nil
-  l_cons : {u : Tree} {us : Trees} {vs : Values} (expected : Option ℕ) (k : Lit) → read_with T true allow expected u ≡ ok k → Listed T allow us vs → Listed T allow (cons u us) (v_cons k.value vs)
+  l_cons : {u : Tree} {us : Trees} {vs : Values} (expected : Option ℕ) (k : Lit) → read_with T true allow expected u ≡ Ok k → Listed T allow us vs → Listed T allow (cons u us) (v_cons k.value vs)
 
 -- of the literal that stands from node i up to the last, so many levels below it
 module _ (T : Tables) (ms ws ts names : List ℕ) (below i last : ℕ) where
@@ -70,18 +68,18 @@ FormAt sorts members names ws ts ms i r =
 abbrev pub AppForm : List ℕ → List ℕ → List ℕ → List ℕ → List ℕ → ℕ → Form → Type 0
 AppForm sorts names ws ts ms i r =
     (l : Lent) → l.sorts ≡ sorts → l.names ≡ names → (us : Trees) (s : Standing (app us) ws ts i) (below : ℕ) (expected : Option ℕ) (k : Lit) → suc below ≤ levels →
-    read_with (tables_of l) true (suc below) expected (app us) ≡ ok k → ite_shape (shape us) ≡ false → Settled (tables_of l) ms ws ts i s.next →
+    read_with (tables_of l) true (suc below) expected (app us) ≡ Ok k → ite_shape (shape us) ≡ false → Settled (tables_of l) ms ws ts i s.next →
     Says (tables_of l) ms ws ts names below i s.next k.value r
 
 -- that of a name to so many arguments from a node on, and that of a row's name
 abbrev pub MadeForm : List ℕ → List ℕ → List ℕ → List ℕ → ℕ → ℕ → ℕ → ℕ → Form → Type 0
 MadeForm sorts names ws ts offset size first many r =
     (l : Lent) → l.sorts ≡ sorts → l.names ≡ names → (f : List ℕ) (us : Trees) → Reads f ts offset size → (s : StandingAll us ws ts first many) (ms : List ℕ) (below i : ℕ) (expected : Option ℕ) (k : Lit) →
-    app_lit (tables_of l) (λ t. read_sort (tables_of l) below t) (λ e u. read_with (tables_of l) true below e u) true expected (made f us) ≡ ok k → i < first → Settled (tables_of l) ms ws ts i s.next →
+    app_lit (tables_of l) (λ t. read_sort (tables_of l) below t) (λ e u. read_with (tables_of l) true below e u) true expected (made f us) ≡ Ok k → i < first → Settled (tables_of l) ms ws ts i s.next →
     Says (tables_of l) ms ws ts names below i s.next k.value r
 
 abbrev pub RowForm : List ℕ → List ℕ → ℕ → ℕ → ℕ → Form → Type 0
 RowForm sorts ws row first many r =
     (l : Lent) → l.sorts ≡ sorts → (us : Trees) (ts : List ℕ) (s : StandingAll us ws ts first many) (ms names : List ℕ) (below i : ℕ) (k : Lit) →
-    made_row (tables_of l) (λ t. read_sort (tables_of l) below t) (λ e u. read_with (tables_of l) true below e u) row (at (tables_of l).sorts row) us ≡ ok k → i < first → Settled (tables_of l) ms ws ts i s.next →
+    made_row (tables_of l) (λ t. read_sort (tables_of l) below t) (λ e u. read_with (tables_of l) true below e u) row (at (tables_of l).sorts row) us ≡ Ok k → i < first → Settled (tables_of l) ms ws ts i s.next →
     Says (tables_of l) ms ws ts names below i s.next k.value r

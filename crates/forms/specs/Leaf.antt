@@ -1,12 +1,11 @@
 -- Document 01, "Sorts and literals": what a value without another one in it is.
-use Rattle.std.specs.Prelude.{◌≡◌, List, ℕ, ◌%◌, ◌^◌}
+use Rattle.std.specs.Prelude.{◌≡◌, List, ℕ, ◌%◌, ◌^◌, Ok}
 use Rattle.words.specs.declared.digits.Radix.{Radix}
 use Rattle.words.specs.Run.{parsed}
 use Rattle.arena.specs.Tree.{string as quoted}
 use Rattle.tables.specs.Layout.{Lent, word, part, tables_of}
 use Rattle.tables.specs.Sort.{Tables}
 use Rattle.shapes.specs.Shows.{Standing}
-use Rattle.sorts.specs.Result.{ok}
 use Rattle.values.specs.Value.{Value, v_bits, v_entity}
 use Rattle.means.specs.Literal.{Lit, unsigned, numbered, word_lit}
 use Rattle.forms.specs.declared.form.Form.{Form}
@@ -19,7 +18,7 @@ Alone ts names v r = (T : Tables) (ms ws : List ℕ) (below i last : ℕ) → Sa
 -- the number that the digits are, at a width
 abbrev pub IndexedForm : List ℕ → ℕ → Form → Type 0
 IndexedForm digits width r =
-    (n : ℕ) → numbered (parsed Radix.Decimal (unsigned digits)) ≡ ok n → (ts names : List ℕ) → Alone ts names (v_bits width (n % 2 ^ width)) r
+    (n : ℕ) → numbered (parsed Radix.Decimal (unsigned digits)) ≡ Ok n → (ts names : List ℕ) → Alone ts names (v_bits width (n % 2 ^ width)) r
 
 -- an entity of a row, its text at a node
 abbrev pub EntityForm : List ℕ → ℕ → ℕ → Form → Type 0
@@ -32,4 +31,4 @@ MemberForm members names row r = (ts : List ℕ) → Alone ts names (v_entity (w
 -- a symbol
 abbrev pub WordForm : List ℕ → List ℕ → List ℕ → Form → Type 0
 WordForm members names name r =
-    (l : Lent) → l.members ≡ members → l.names ≡ names → (k : Lit) → word_lit (tables_of l) name ≡ ok k → (ts : List ℕ) → Alone ts names k.value r
+    (l : Lent) → l.members ≡ members → l.names ≡ names → (k : Lit) → word_lit (tables_of l) name ≡ Ok k → (ts : List ℕ) → Alone ts names k.value r

@@ -4,7 +4,7 @@ ghost use Rattle.forms.specs.Form.{RowForm, MadeForm};
 
 use crate::form::Form;
 use arena::{Node, node_at};
-use tables::{Found, SortRow, clamp, find_sort_name, sort_at};
+use tables::{SortRow, clamp, find_sort_name, sort_at};
 
 // An entity of a row, its text at a node.
 fn entity_form(nodes: &[u64], row: usize, at: usize) -> Form
@@ -46,7 +46,7 @@ pub fn made_form(
     let end = range.end;
     let found = find_sort_name(sorts, names, &text[start..end]);
     match found {
-        Found::Row(row) => row_form(sorts, nodes, row, first, count),
-        Found::NoRow => Form::NoForm,
+        Some(row) => row_form(sorts, nodes, row, first, count),
+        None => Form::NoForm,
     }
 }

@@ -7,13 +7,14 @@ ghost use Rattle.means.specs.Literal.{unsigned};
 ghost use Rattle.forms.specs.Leaf.{IndexedForm};
 
 use crate::form::Form;
+use refusals::Refusal;
 use tables::clamp;
-use words::{Parsed, Radix, parse};
+use words::{Pair, Radix, parse};
 
 // The sign that one number may begin with.
 const PLUS: u8 = 43;
 
-pub fn parse_number(digits: &[u8]) -> Parsed
+pub fn parse_number(digits: &[u8]) -> Result<Pair, Refusal>
     ensures { result ≡ parsed Radix.Decimal (unsigned digits.now) }
 {
     if digits.len() == 0 {
@@ -33,11 +34,11 @@ pub fn indexed_form(text: &[u8], offset: u64, size: u64, width: u64) -> Form
     let end = range.end;
     let parsed = parse_number(&text[start..end]);
     match parsed {
-        Parsed::Number(number) => Form::Bits {
+        Ok(number) => Form::Bits {
             width,
             low: number.low,
             high: number.high,
         },
-        Parsed::Refused(_) => Form::NoForm,
+        Err(_) => Form::NoForm,
     }
 }

@@ -4,7 +4,7 @@ ghost use Rattle.forms.specs.Leaf.{MemberForm, WordForm};
 
 use crate::form::Form;
 use arena::same;
-use tables::{Found, clamp, find_member, word};
+use tables::{clamp, find_member, word};
 
 // The member of a row; a text that runs past the names is as long as they go.
 fn member_form(members: &[u64], names: &[u8], row: usize) -> Form
@@ -32,8 +32,8 @@ fn name_form(members: &[u64], names: &[u8], name: &[u8]) -> Form
     }
     let found = find_member(members, names, name);
     match found {
-        Found::Row(row) => member_form(members, names, row),
-        Found::NoRow => Form::NoForm,
+        Some(row) => member_form(members, names, row),
+        None => Form::NoForm,
     }
 }
 

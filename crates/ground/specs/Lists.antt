@@ -1,6 +1,5 @@
 -- Lists that the definitions of document 01's lines and tables are made of.
-use Rattle.std.specs.Prelude.{Bool, true, false, cond, ◌&&◌, ◌||◌, not, List, [], ◌∷◌, ◌++◌, ℕ, zero, suc}
-use Rattle.std.proofs.Math.Option.{Option, none, some}
+use Rattle.std.specs.Prelude.{Bool, true, false, cond, ◌&&◌, ◌||◌, not, List, [], ◌∷◌, ◌++◌, ℕ, zero, suc, None, Option, Some}
 
 -- the parts one after the other, with the separator between two
 unfoldable pub joined : List ℕ → List (List ℕ) → List ℕ
@@ -25,18 +24,18 @@ distinct same (x ∷ xs) = not (any (same x) xs) && distinct same xs
 
 -- the number of an element after a first one
 abbrev pub up : Option ℕ → Option ℕ
-up none = none
-up (some i) = some (suc i)
+up None = None
+up (Some i) = Some (suc i)
 
 -- the place of the first element that passes the test, counted from 0
 unfoldable pub find {ℓ} : {A : Type ℓ} → (A → Bool) → List A → Option ℕ
-find test [] = none
-find test (x ∷ xs) = cond (test x) (some zero) (up (find test xs))
+find test [] = None
+find test (x ∷ xs) = cond (test x) (Some zero) (up (find test xs))
 
 -- the element at a place, if there is one
-unfoldable pub at {ℓ} : {A : Type ℓ} → List A → ℕ → Option A
-at [] i = none
-at (x ∷ xs) zero = some x
+unfoldable pub at : {A : Type 0} → List A → ℕ → Option A
+at [] i = None
+at (x ∷ xs) zero = Some x
 at (x ∷ xs) (suc i) = at xs i
 
 -- what a rule makes of the numbers from the first on, so many of them

@@ -6,35 +6,22 @@ ghost use Rattle.lent.specs.Put.{Fronts, Offers};
 
 use refusals::Refusal;
 
-#[derive(Clone, Copy)]
-pub enum Written {
-    Length(usize),
-    Refused(Refusal),
-}
-
 // Bytes at the front of a buffer that has room for them; answers how many.
+#[tactic(auto, unfolding(crate::specs::Left::onto))]
 pub fn copy(bytes: &[u8], out: &mut [u8]) -> usize
     requires { length bytes.now ≤ length out.old }
     ensures { Fronts bytes.now out.old out.new result }
 {
-    let mut at = 0;
-    while at < bytes.len() {
-        out[at] = bytes[at];
-        at += 1;
-    }
-    at
+    out[..bytes.len()].copy_from_slice(bytes);
+    bytes.len()
 }
 
 // A piece at a place, where there is room for it; answers the place after it.
 pub fn put(piece: &[u8], out: &mut [u8], at: usize) -> usize
     ensures { Offers out.old out.new at piece.now result }
 {
-    if out.len() < at {
+    if out.len() < at || out.len() - at < piece.len() {
         return at;
     }
-    if out.len() - at < piece.len() {
-        return at;
-    }
-    let count = copy(piece, &mut out[at..]);
-    at + count
+    at + copy(piece, &mut out[at..])
 }

@@ -3,12 +3,12 @@
 use mathlib.Core.Path.{◌≡◌, refl, sym, ap, ◌∙◌}
 use mathlib.Core.Bool.{Bool, true, false}
 use mathlib.Core.List.{List, [], ◌∷◌}
-use Prim.Native.Nat.{ℕ, zero, suc, ◌+◌, ◌≤◌, ◌<◌}
+use Prim.Native.Nat.{ℕ, zero, suc, max, ◌+◌, ◌≤◌, ◌<◌}
 use native.Mathlib.Omega.{arith}
 use lib.Dec.{eqb, eqb-suc-suc, eqb-zero-suc}
 use lib.ListN.{length, get_or, take, drop, drop_of_length-le, length-drop}
 use Rattle.ground.proofs.Lists.{at_place}
-use Rattle.ground.proofs.Tests.{by_test}
+use Rattle.ground.proofs.Tests.{by_order, by_test}
 use borrow.Author.Tests.{eq-eqb, ne_eqb}
 use Rattle.lexicon.specs.Span.{span_by, in_line}
 use Rattle.ground.specs.Lists.{all}
@@ -75,6 +75,14 @@ module _ (test : ℕ → Bool) where
 
     pub span_ends : (n : ℕ) → n ≡ i + span_by test (drop i s) → length s ≤ i → i ≡ n
     span_ends n r h = omega (arith, r, ap (span_by test) (drop_of_length-le s h), none)
+
+    -- where all bytes from a start on pass, the run ends with them, or at the start if that is behind them
+    pub span_last : (start m : ℕ) → start + span_by test (drop start s) ≡ i + span_by test (drop i s) → length s ≤ i → (start ≤ length s → i ≤ length s) → m ≡ max start (length s)
+        → m ≡ start + span_by test (drop start s)
+    span_last start m r h within e =
+        by_order (length s) start
+        (λ past. omega (arith, e, ap (span_by test) (drop_of_length-le s {i = start} (omega arith)), none))
+        (λ less. omega (arith, e, within less, span_ends _ r h))
 
 -- what a comment's own test says
 pub line-ends : (b : ℕ) → b ≡ 0x0A → in_line b ≡ false

@@ -89,5 +89,5 @@ pub fn class_of(table: &[u8; 256], byte: u8) -> u8
     requires { table.now ≡ classes }
     ensures { result ≡ class_of byte }
 {
-    table[byte as usize]
+    table[usize::from(byte)]
 }

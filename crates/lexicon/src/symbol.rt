@@ -9,14 +9,11 @@ use utf8::is_utf8;
 pub fn is_symbol(name: &[u8]) -> bool
     ensures { result ≡ one_symbol name.now }
 {
-    if name.len() == 0 {
+    if name.is_empty() {
         return false;
     }
     let table = class_table();
-    if class_of(&table, name[0]) != OTHER {
-        return false;
-    }
-    if span_end(&table, name, 1) != name.len() {
+    if class_of(&table, name[0]) != OTHER || span_end(&table, name, 1) != name.len() {
         return false;
     }
     is_utf8(name)

@@ -1,9 +1,9 @@
 -- The definition that is kept for a slot is its row's last one, and stands on what it was read from.
 -- Assumes nothing.
+use Rattle.std.proofs.Common.{None, Option, Some}
 use mathlib.Core.Path.{◌≡◌, refl, sym, ap, ap₂, ◌∙◌, subst}
 use mathlib.Core.Bool.{cond}
 use mathlib.Core.List.{List, [], ◌∷◌}
-use mathlib.Core.Option.{Option, none, some}
 use Prim.Native.Nat.{ℕ, min, ◌+◌, ◌^◌, ◌<◌}
 use native.Mathlib.Omega.{arith}
 use lib.Dec.{eqb}
@@ -29,15 +29,15 @@ module _ (l : Lent) (ws ts : List ℕ) (k : ℕ) where
     pub ground : Grounded l ws ts p
 
   abbrev pub OwnsIn : Option Placed → Type 0
-  OwnsIn none = Unit {0}
-  OwnsIn (some p) = Owns p
+  OwnsIn None = Unit {0}
+  OwnsIn (Some p) = Owns p
 
-  owns_if : (p : Placed) → Grounded l ws ts p → OwnsIn (cond (eqb k (slot l p.it)) (some p) none)
+  owns_if : (p : Placed) → Grounded l ws ts p → OwnsIn (cond (eqb k (slot l p.it)) (Some p) None)
   owns_if p g = by_test (eqb k (slot l p.it)) (λ h. rw h (record { slot_is = eqb-true k (slot l p.it) h; ground = g })) (λ h. rw h tt)
 
   owns_or : (a b : Option Placed) → OwnsIn a → OwnsIn b → OwnsIn (or_else a b)
-  owns_or none b f g = g
-  owns_or (some p) b f g = f
+  owns_or None b f g = g
+  owns_or (Some p) b f g = f
 
   pub slot_owned : (ps : List Placed) → Every (Grounded l ws ts) ps → OwnsIn (last_in l k ps)
   unfolding last_in
@@ -62,15 +62,15 @@ module _ (l : Lent) (ws ts last : List ℕ) (k : ℕ) where
     pub small : table_size t < 2 ^ 42
 
   pub data Slot : Option Placed → Type 0 where
-    empty : word_at last k node_word ≡ 0 → Slot none
-    variable : {p : Placed} (v : Value) → p.it ≡ is_variable k v → VariableNoted v → Slot (some p)
-    function : {p : Placed} (i : ℕ) (t : Table) → p.it ≡ is_function i t → FunctionNoted i t → Slot (some p)
+    empty : word_at last k node_word ≡ 0 → Slot None
+    variable : {p : Placed} (v : Value) → p.it ≡ is_variable k v → VariableNoted v → Slot (Some p)
+    function : {p : Placed} (i : ℕ) (t : Table) → p.it ≡ is_function i t → FunctionNoted i t → Slot (Some p)
 
   whole : (n m : ℕ) → n ≡ min m 18446744073709551615 → m < 2 ^ 42 → n ≡ m
   whole n m e h = omega arith
 
   slot_of : (p : Placed) (d : Definition) → p.it ≡ d → k ≡ slot l d → Within (tables_of l) d → size d < 2 ^ 42 → Stands l ws ts d p.node p.value → 0 < p.node →
-      Words p (word_at last k node_word) (word_at last k value_word) (word_at last k need_word) → word_at last k need_word ≡ capped (size d) → Slot (some p)
+      Words p (word_at last k node_word) (word_at last k value_word) (word_at last k need_word) → word_at last k need_word ≡ capped (size d) → Slot (Some p)
   slot_of p (is_variable i v) e s w small stands z h long =
       variable v (e ∙ ap (λ (j : ℕ). is_variable j v) (sym s))
       (record {
@@ -92,8 +92,8 @@ module _ (l : Lent) (ws ts last : List ℕ) (k : ℕ) where
       })
 
   slot_as : (o : Option Placed) → OwnsIn l ws ts k o → Holds o (word_at last k node_word) (word_at last k value_word) (word_at last k need_word) → Slot o
-  slot_as none f h = empty h.0
-  slot_as (some p) f h =
+  slot_as None f h = empty h.0
+  slot_as (Some p) f h =
       slot_of p p.it refl f.slot_is f.ground.within f.ground.small f.ground.stands f.ground.no_root h h.long-is
 
   pub slot-known : (ps : List Placed) → Known l ws ts last ps → k < slots → Slot (last_in l k ps)
@@ -104,15 +104,15 @@ module _ (l : Lent) where
   abbrev pub it_in : Option Placed → Option Definition
   it_in o = mapped (λ p. p.it) o
 
-  it_if : (k : ℕ) (p : Placed) → it_in (cond (eqb k (slot l p.it)) (some p) none) ≡ cond (eqb k (slot l p.it)) (some p.it) none
+  it_if : (k : ℕ) (p : Placed) → it_in (cond (eqb k (slot l p.it)) (Some p) None) ≡ cond (eqb k (slot l p.it)) (Some p.it) None
   it_if k p = by_test (eqb k (slot l p.it)) (λ h. rw h refl) (λ h. rw h refl)
 
-  variable_if : (k : ℕ) → k < count l.variables → (d : Definition) → cond (eqb k (slot l d)) (some d) none ≡ mapped (is_variable k) (variable_in k d)
+  variable_if : (k : ℕ) → k < count l.variables → (d : Definition) → cond (eqb k (slot l d)) (Some d) None ≡ mapped (is_variable k) (variable_in k d)
   variable_if k h (is_variable j v) =
       by_test (eqb k j) (λ t. let e : k ≡ j = eqb-true k j t in rw (t, e) refl) (λ t. rw t refl)
   variable_if k h (is_function j t) = rw (ne_eqb k (count l.variables + j) (λ z. omega arith)) refl
 
-  function_if : (i : ℕ) (d : Definition) → Within (tables_of l) d → cond (eqb (count l.variables + i) (slot l d)) (some d) none ≡ mapped (is_function i) (function_in i d)
+  function_if : (i : ℕ) (d : Definition) → Within (tables_of l) d → cond (eqb (count l.variables + i) (slot l d)) (Some d) None ≡ mapped (is_function i) (function_in i d)
   function_if i (is_variable j v) w = rw (ne_eqb (count l.variables + i) j (λ z. omega (arith, z, w, variable-count l))) refl
   function_if i (is_function j t) w =
       let n = count l.variables in
@@ -124,7 +124,7 @@ module _ (l : Lent) where
   unfolding last_in last_variable
   last-variable k h [] = refl
   last-variable k h (p ∷ ps) =
-      sym (mapped_or (λ q. q.it) (last_in l k ps) (cond (eqb k (slot l p.it)) (some p) none))
+      sym (mapped_or (λ q. q.it) (last_in l k ps) (cond (eqb k (slot l p.it)) (Some p) None))
       ∙ ap₂ (λ (a b : Option Definition). or_else a b) (last-variable k h ps) (it_if k p ∙ variable_if k h p.it)
       ∙ mapped_or (is_variable k) (last_variable k (its ps)) (variable_in k p.it)
 
@@ -133,6 +133,6 @@ module _ (l : Lent) where
   last-function ws ts i [] e = refl
   last-function ws ts i (p ∷ ps) (also g gs) =
       let k = count l.variables + i in
-      sym (mapped_or (λ q. q.it) (last_in l k ps) (cond (eqb k (slot l p.it)) (some p) none))
+      sym (mapped_or (λ q. q.it) (last_in l k ps) (cond (eqb k (slot l p.it)) (Some p) None))
       ∙ ap₂ (λ (a b : Option Definition). or_else a b) (last-function ws ts i ps gs) (it_if k p ∙ function_if i p.it g.within)
       ∙ mapped_or (is_function i) (last_function i (its ps)) (function_in i p.it)

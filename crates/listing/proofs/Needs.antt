@@ -1,9 +1,9 @@
 -- A refusal of the walk tells no need, and the need of a listing is below 2 ^ 56: so one word can tell a refusal's number and its detail.
 -- Assumes nothing.
+use Rattle.std.proofs.Common.{None, Option, Some, Err, Ok, Result}
 use mathlib.Core.Path.{◌≡◌, refl, sym, ap, ◌∙◌, subst}
 use mathlib.Core.Bool.{true, false}
 use mathlib.Core.List.{List}
-use mathlib.Core.Option.{Option, none, some}
 use Prim.Native.Nat.{ℕ, ◌*◌, ◌^◌, ◌≤◌, ◌<◌}
 use native.Mathlib.Omega.{arith}
 use lib.Dec.{eqb}
@@ -13,8 +13,6 @@ use Rattle.ground.proofs.Tests.{by_order}
 use Rattle.refusals.specs.declared.Refusal.{Refusal}
 use Rattle.refusals.specs.declared.Refusal.TheVariants.{UnexpectedModel, UnmatchedType, UnexpectedForm}
 use Rattle.refusals.specs.Number.{detail_of}
-use Rattle.lent.specs.declared.Written.{Written}
-use Rattle.lent.specs.declared.Written.TheVariants.{Length, Refused}
 use Rattle.lent.specs.Left.{Left, Leaves}
 use Rattle.arena.specs.Arena.{Arena}
 use Rattle.arena.specs.Tree.{Tree, Trees, bit_vec, numeral, string, symbol, app, nil, cons, count as many-of, nodes, text as tree_text}
@@ -26,7 +24,7 @@ use Rattle.tables.specs.Check.{passes}
 use Rattle.tables.specs.Rules.{lawful}
 use Rattle.tables.specs.Sort.{Variable, Function, Tables}
 use Rattle.shapes.specs.Shows.{StandingAll}
-use Rattle.sorts.specs.Result.{Result, ok, refused, ◌>>=◌, found}
+use Rattle.sorts.specs.Result.{◌>>=◌, found}
 use Rattle.sorts.specs.Sort.{read_sort, levels}
 use Rattle.means.specs.Literal.{read}
 use Rattle.well_sorted.proofs.Plain.{Plain, plain_then, plain-unless, plain-found, sort-plain, read_plain}
@@ -54,11 +52,11 @@ module _ (T : Tables) where
   module _ (x : List ℕ) (argument result : ℕ) where
     chain-plain : (c : Chain) → Plain (read_chain T x argument result c)
     unfolding read_chain
-    chain-plain (default t) = plain_then (read T levels (some result) t) _ (read_plain T false levels (some result) t) (λ l. plain-unless (eqb l.row result) UnmatchedType _ refl tt)
+    chain-plain (default t) = plain_then (read T levels (Some result) t) _ (read_plain T false levels (Some result) t) (λ l. plain-unless (eqb l.row result) UnmatchedType _ refl tt)
     chain-plain (arm test t rest) =
         plain_then (found UnexpectedForm (key x test)) _ (plain-found UnexpectedForm (key x test) refl)
-        (λ k. plain_then (read T levels none k) _ (read_plain T false levels none k)
-        (λ m. plain_then (read T levels (some result) t) _ (read_plain T false levels (some result) t)
+        (λ k. plain_then (read T levels None k) _ (read_plain T false levels None k)
+        (λ m. plain_then (read T levels (Some result) t) _ (read_plain T false levels (Some result) t)
         (λ l. plain-unless (eqb m.row argument) UnmatchedType _ refl
         (plain-unless (eqb l.row result) UnmatchedType _ refl
         (plain_then (read_chain T x argument result rest) _ (chain-plain rest) (λ table. tt))))))
@@ -68,16 +66,16 @@ module _ (T : Tables) where
     tests_plain nil = tt
     tests_plain (cons test us) =
         plain_then (found UnexpectedForm (key x test)) _ (plain-found UnexpectedForm (key x test) refl)
-        (λ k. plain_then (read T levels none k) _ (read_plain T false levels none k)
+        (λ k. plain_then (read T levels None k) _ (read_plain T false levels None k)
         (λ m. plain-unless (eqb m.row argument) UnmatchedType _ refl
         (plain_then (read_tests T x argument result us) _ (tests_plain us) (λ table. tt))))
 
     body-plain : (body : Tree) (o : Option Trees) → Plain (body_by T x argument result body o)
-    body-plain body none = chain-plain (chain body)
-    body-plain body (some us) = plain-unless (is_bool (at T.sorts result)) UnmatchedType _ refl (tests_plain us)
+    body-plain body None = chain-plain (chain body)
+    body-plain body (Some us) = plain-unless (is_bool (at T.sorts result)) UnmatchedType _ refl (tests_plain us)
 
   value-plain : (row : ℕ) (t : Tree) → Plain (value_as T row t)
-  value-plain row t = plain_then (read T levels (some row) t) _ (read_plain T false levels (some row) t) (λ l. plain-unless (eqb l.row row) UnmatchedType _ refl tt)
+  value-plain row t = plain_then (read T levels (Some row) t) _ (read_plain T false levels (Some row) t) (λ l. plain-unless (eqb l.row row) UnmatchedType _ refl tt)
 
   variable-plain : (v : Variable) (sort t : Tree) → Plain (variable_value T v sort t)
   variable-plain v sort t =
@@ -91,9 +89,9 @@ module _ (T : Tables) where
       (λ result. plain-unless (eqb argument f.argument) UnmatchedType _ refl
       (plain-unless (eqb result f.result) UnmatchedType _ refl (body-plain x argument result body (tests body)))))
 
-  on-row-plain : {A : Type 0} (rows : List A) (o : Option ℕ) (rule : ℕ → A → Result Definition) → ((i : ℕ) (a : A) → Plain (rule i a)) → Plain (on_row T rows o rule)
-  on-row-plain rows none rule h = tt
-  on-row-plain rows (some i) rule h =
+  on-row-plain : {A : Type 0} (rows : List A) (o : Option ℕ) (rule : ℕ → A → Result Definition Refusal) → ((i : ℕ) (a : A) → Plain (rule i a)) → Plain (on_row T rows o rule)
+  on-row-plain rows None rule h = tt
+  on-row-plain rows (Some i) rule h =
       plain_then (found UnexpectedModel (at rows i)) _ (plain-found UnexpectedModel (at rows i) refl) (λ a. plain_then (rule i a) _ (h i a) (λ d. tt))
 
   command-plain : (c : Command) → Plain (read_command T c)
@@ -104,8 +102,8 @@ module _ (T : Tables) where
   command-plain misshapen = refl
 
   pair-plain : (p : Option Pair) → Plain (read_pair T p)
-  pair-plain none = refl
-  pair-plain (some p) =
+  pair-plain None = refl
+  pair-plain (Some p) =
       on-row-plain T.variables (variable_found T p.name) _ (λ i v. plain_then (value_as T v.sort p.second) _ (value-plain v.sort p.second) (λ x. tt))
 
   part-plain : (form : Form) (t : Tree) → Plain (read_part T form t)
@@ -141,7 +139,7 @@ need-small l ws ts rules ps gs =
     mul_mono : (n : ℕ) → n ≤ 2048 → n * most ≤ 18014398509481984
     mul_mono n h = omega arith
 
-reply_small : (form : Form) (l : Lent) (ws ts : List ℕ) → passes l ≡ true → (t : Tree) (ds : List Definition) → Arena ws ts t → read_reply (tables_of l) form t ≡ ok ds → need (tables_of l) ds < 2 ^ 56
+reply_small : (form : Form) (l : Lent) (ws ts : List ℕ) → passes l ≡ true → (t : Tree) (ds : List Definition) → Arena ws ts t → read_reply (tables_of l) form t ≡ Ok ds → need (tables_of l) ds < 2 ^ 56
 unfolding read_reply ◌>>=◌
 reply_small form l ws ts p (bit_vec w n) ds a e = refuses e
 reply_small form l ws ts p (numeral n) ds a e = refuses e
@@ -152,32 +150,32 @@ reply_small form l ws ts p (app us) ds a e = go (placed (tables_of l) form 1 us)
     stood : StandingAll us ws ts 1 (many-of us)
     stood = let s = arena-stands ws ts (app us) a in record { next = nodes (app us); from = 0; rest = length (tree_text (app us)); there = s.children; many-are = refl }
 
-    go : (m : Result (List Placed)) → placed (tables_of l) form 1 us ≡ m → need (tables_of l) ds < 2 ^ 56
-    go (ok ps) z =
-        let k : ok (its ps) ≡ ok ds = sym (ap (λ (x : Result (List Placed)). x >>= λ qs. ok (its qs)) z) ∙ placed-read (tables_of l) form 1 us ∙ e in
+    go : (m : Result (List Placed) Refusal) → placed (tables_of l) form 1 us ≡ m → need (tables_of l) ds < 2 ^ 56
+    go (Ok ps) z =
+        let k : Ok (its ps) ≡ Ok ds = sym (ap (λ (x : Result (List Placed) Refusal). x >>= λ qs. Ok (its qs)) z) ∙ placed-read (tables_of l) form 1 us ∙ e in
         subst (λ (es : List Definition). need (tables_of l) es < 2 ^ 56) (ok_same k) (need-small l ws ts (passes-rules l p) ps (parts-grounded form l ws ts us (many-of us) stood (sure_of l ws ts us p a) ps z))
-    go (refused r) z = let k : refused r ≡ ok ds = sym (ap (λ (x : Result (List Placed)). x >>= λ qs. ok (its qs)) z) ∙ placed-read (tables_of l) form 1 us ∙ e in refuses k
+    go (Err r) z = let k : Err r ≡ Ok ds = sym (ap (λ (x : Result (List Placed) Refusal). x >>= λ qs. Ok (its qs)) z) ∙ placed-read (tables_of l) form 1 us ∙ e in refuses k
 
 -- what is told
-told-so : {why : Refusal} {s : Written} → Refused why ≡ s → (P : Written → Type 0) → P s → P (Refused why)
+told-so : {why : Refusal} {s : Result ℕ Refusal} → Err why ≡ s → (P : Result ℕ Refusal → Type 0) → P s → P (Err why)
 told-so e P p = subst P (sym e) p
 
-abbrev Told : Written → Type 0
-Told (Length n) = Unit {0}
-Told (Refused why) = detail_of why < 2 ^ 56
+abbrev Told : Result ℕ Refusal → Type 0
+Told (Ok n) = Unit {0}
+Told (Err why) = detail_of why < 2 ^ 56
 
-pub listing-told : (form : Form) (l : Lent) (ws ts entry : List ℕ) (why : Refusal) (exit : List ℕ) → Lists form l ws ts entry (Refused why) exit → detail_of why < 2 ^ 56
+pub listing-told : (form : Form) (l : Lent) (ws ts entry : List ℕ) (why : Refusal) (exit : List ℕ) → Lists form l ws ts entry (Err why) exit → detail_of why < 2 ^ 56
 listing-told form l ws ts entry why exit (bad-table p h) = told-so h.answers Told (omega arith)
 listing-told form l ws ts entry why exit (bad-arena p f h) = told-so h.answers Told (omega arith)
 listing-told form l ws ts entry why exit (walked p t a h) = go (read_reply (tables_of l) form t) refl h
   where
-    go : (m : Result (List Definition)) → read_reply (tables_of l) form t ≡ m → Leaves (left (tables_of l) m entry) (Refused why) exit → detail_of why < 2 ^ 56
-    go (ok ds) e k =
+    go : (m : Result (List Definition) Refusal) → read_reply (tables_of l) form t ≡ m → Leaves (left (tables_of l) m entry) (Err why) exit → detail_of why < 2 ^ 56
+    go (Ok ds) e k =
         let small = reply_small form l ws ts p t ds a e in
         told-so k.answers Told
         (by_order (length entry) (need (tables_of l) ds)
         (λ h. subst (λ (x : Left). Told x.answer) (sym (short (listing (tables_of l) ds) (need (tables_of l) ds) entry h)) small)
         (λ h. subst (λ (x : Left). Told x.answer) (sym (fits (listing (tables_of l) ds) (need (tables_of l) ds) entry h)) tt))
-    go (refused r) e k =
+    go (Err r) e k =
         let q = subst Plain e (reply_plain (tables_of l) form t) in
         told-so k.answers Told (omega (arith, q))

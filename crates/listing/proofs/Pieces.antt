@@ -1,9 +1,9 @@
 -- The lines of a row, one piece after the other, and the slots' lines, one after the other.
 -- Assumes nothing.
+use Rattle.std.proofs.Common.{Option, Some}
 use mathlib.Core.Path.{◌≡◌, refl, sym, ◌∙◌, subst}
 use mathlib.Core.Bool.{true}
 use mathlib.Core.List.{List}
-use mathlib.Core.Option.{Option, some}
 use Prim.Native.Nat.{ℕ, ◌+◌, ◌-◌, ◌≤◌, ◌<◌}
 use native.Mathlib.Omega.{arith}
 use lib.ListN.{length, take, drop}
@@ -48,7 +48,7 @@ module _ (l : Lent) (ws ts : List ℕ) (row : ℕ) where
       WritesInside l.sorts l.members l.names ws ts value levels d f three four → Offers f k four (bytes "\n") r →
       LaysVariable l ws ts row value a k place r
   variable-laid value w a b c d f k place one two three four r q p1 p2 p3 p4 p5 v s =
-      subst (λ (x : Value). Lays (variable_lines (variable_at l row) (some x)) (variable_lines (variable_at l row) (some (normal x))) a k place r) s.same
+      subst (λ (x : Value). Lays (variable_lines (variable_at l row) (Some x)) (variable_lines (variable_at l row) (Some (normal x))) a k place r) s.same
       (lays_then (lays_put p1)
       (lays_then (word_line (bytes "sort=") q p2)
       (lays_then (lays_put p3)

@@ -1,9 +1,9 @@
 -- The lines of all names are the slots' lines, one after the other; and so are the counts.
 -- Assumes nothing.
+use Rattle.std.proofs.Common.{None, Option, Some}
 use mathlib.Core.Path.{◌≡◌, refl, sym, ap, ap₂, ◌∙◌, subst}
 use mathlib.Core.Bool.{true}
 use mathlib.Core.List.{List, [], ◌++◌, map}
-use mathlib.Core.Option.{Option, none, some}
 use Prim.Native.Nat.{ℕ, ◌+◌, ◌-◌, ◌≤◌, ◌<◌}
 use native.Mathlib.Nat.{sub-zero}
 use native.Mathlib.Omega.{arith}
@@ -57,31 +57,31 @@ module _ (l : Lent) (ds : List Definition) where
 -- what a slot gives, by its last definition
 module _ (l : Lent) where
   abbrev given : {A : Type 0} → A → (Definition → A) → Option Definition → A
-  given e f none = e
-  given e f (some d) = f d
+  given e f None = e
+  given e f (Some d) = f d
 
-  as_given : {A : Type 0} (e : A) (f : Definition → A) (g : Option Placed → A) → g none ≡ e → ((p : Placed) → g (some p) ≡ f p.it) → (o : Option Placed) → g o ≡ given e f (it_in l o)
-  as_given e f g s t none = s
-  as_given e f g s t (some p) = t p
+  as_given : {A : Type 0} (e : A) (f : Definition → A) (g : Option Placed → A) → g None ≡ e → ((p : Placed) → g (Some p) ≡ f p.it) → (o : Option Placed) → g o ≡ given e f (it_in l o)
+  as_given e f g s t None = s
+  as_given e f g s t (Some p) = t p
 
-  module _ {A : Type 0} (e : A) (f : Definition → A) (g : Option Placed → A) (s : g none ≡ e) (t : (p : Placed) → g (some p) ≡ f p.it) where
-    of-variable : (h : Option Value → A) → h none ≡ e → (k : ℕ) → ((v : Value) → h (some v) ≡ f (is_variable k v)) → k < count l.variables → (ps : List Placed) →
+  module _ {A : Type 0} (e : A) (f : Definition → A) (g : Option Placed → A) (s : g None ≡ e) (t : (p : Placed) → g (Some p) ≡ f p.it) where
+    of-variable : (h : Option Value → A) → h None ≡ e → (k : ℕ) → ((v : Value) → h (Some v) ≡ f (is_variable k v)) → k < count l.variables → (ps : List Placed) →
         g (last_in l k ps) ≡ h (last_variable k (its ps))
     of-variable h n k y b ps =
         as_given e f g s t (last_in l k ps) ∙ ap (given e f) (last-variable l k b ps) ∙ back (last_variable k (its ps))
       where
         back : (o : Option Value) → given e f (mapped (is_variable k) o) ≡ h o
-        back none = sym n
-        back (some v) = sym (y v)
+        back None = sym n
+        back (Some v) = sym (y v)
 
-    of_function : (h : Option Table → A) → h none ≡ e → (i : ℕ) → ((u : Table) → h (some u) ≡ f (is_function i u)) → (ws ts : List ℕ) (ps : List Placed) → Every (Grounded l ws ts) ps →
+    of_function : (h : Option Table → A) → h None ≡ e → (i : ℕ) → ((u : Table) → h (Some u) ≡ f (is_function i u)) → (ws ts : List ℕ) (ps : List Placed) → Every (Grounded l ws ts) ps →
         g (last_in l (count l.variables + i) ps) ≡ h (last_function i (its ps))
     of_function h n i y ws ts ps gs =
         as_given e f g s t (last_in l (count l.variables + i) ps) ∙ ap (given e f) (last-function l ws ts i ps gs) ∙ back (last_function i (its ps))
       where
         back : (o : Option Table) → given e f (mapped (is_function i) o) ≡ h o
-        back none = sym n
-        back (some u) = sym (y u)
+        back None = sym n
+        back (Some u) = sym (y u)
 
 module _ (l : Lent) (ps : List Placed) where
   abbrev pub entry_of : ℕ → List ℕ
@@ -126,8 +126,8 @@ module _ (l : Lent) (ws ts : List ℕ) (ps : List Placed) (gs : Every (Grounded 
 -- settled definitions are as many
 module _ (l : Lent) (ds : List Definition) where
   one-mapped : {A B : Type 0} (f : A → B) (o : Option A) → one ds o ≡ one (map settled ds) (mapped f o)
-  one-mapped f none = refl
-  one-mapped f (some a) = refl
+  one-mapped f None = refl
+  one-mapped f (Some a) = refl
 
   same-counted : {A : Type 0} (f : A → A) (last : ℕ → List Definition → Option A) → ((i : ℕ) → last i (map settled ds) ≡ mapped f (last i ds)) → (n : ℕ) →
       sums (λ j. one ds (last j ds)) 0 n ≡ sums (λ j. one (map settled ds) (last j (map settled ds))) 0 n

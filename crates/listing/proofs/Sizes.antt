@@ -1,9 +1,9 @@
 -- How long the lines of a row are.
 -- Assumes nothing.
+use Rattle.std.proofs.Common.{Some}
 use mathlib.Core.Path.{◌≡◌, refl, sym, ◌∙◌}
 use mathlib.Core.Bool.{true, ◌&&◌}
 use mathlib.Core.List.{List, ◌++◌}
-use mathlib.Core.Option.{some}
 use Prim.Native.Nat.{ℕ, min, ◌+◌, ◌-◌, ◌≤◌, ◌<◌}
 use native.Mathlib.Omega.{arith}
 use lib.Dec.{leb}
@@ -45,13 +45,13 @@ pub header-need : (v f one two : ℕ) → one ≡ digit_count v → two ≡ digi
 header-need v f one two p q = omega (arith, length-header v f)
 
 module _ (l : Lent) (row : ℕ) where
-  pub length-variable : (v : Value) → length (variable_lines (variable_at l row) (some v)) ≡ variable_size l.names l.variables row (value_size v)
+  pub length-variable : (v : Value) → length (variable_lines (variable_at l row) (Some v)) ≡ variable_size l.names l.variables row (value_size v)
   length-variable v =
       let n = name_at l.names l.variables row in
       let d = decimal (word l.variables row 2) in
       omega (arith, length-append (line "var" n) (line "sort" d ++ line "value" (text v)), length-append (line "sort" d) (line "value" (text v)), length-line "var" n, length-line "sort" d, length-line "value" (text v), length-decimal (word l.variables row 2))
 
-  pub length-function : (t : Table) → length (function_lines (function_at l row) (some t)) ≡ function_size l.names l.functions row (table_size t)
+  pub length-function : (t : Table) → length (function_lines (function_at l row) (Some t)) ≡ function_size l.names l.functions row (table_size t)
   length-function t =
       let n = name_at l.names l.functions row in
       let a = decimal (word l.functions row 2) in

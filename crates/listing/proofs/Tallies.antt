@@ -1,9 +1,9 @@
 -- Names that are defined, counted slot by slot, and the lengths of their lines summed up.
 -- Assumes nothing.
+use Rattle.std.proofs.Common.{None, Option, Some}
 use mathlib.Core.Path.{◌≡◌, sym, ap, ◌∙◌}
 use mathlib.Core.Bool.{true}
 use mathlib.Core.List.{List}
-use mathlib.Core.Option.{Option, none, some}
 use Prim.Native.Nat.{ℕ, min, ◌+◌, ◌*◌, ◌-◌, ◌^◌, ◌≤◌, ◌<◌}
 use native.Mathlib.Nat.{sub-zero}
 use native.Mathlib.Omega.{arith}
@@ -40,8 +40,8 @@ module _ (l : Lent) (rules : lawful (tables_of l) ≡ true) where
   short-of (is_function i t) w small = omega (arith, length-function l i t, function-most l i rules (table_size t) (omega (arith, w, function-count l)))
 
   short_in : (ws ts : List ℕ) (k : ℕ) (o : Option Placed) → OwnsIn l ws ts k o → length (entry_in l o) ≤ most
-  short_in ws ts k none f = omega arith
-  short_in ws ts k (some p) f = short-of p.it f.ground.within f.ground.small
+  short_in ws ts k None f = omega arith
+  short_in ws ts k (Some p) f = short-of p.it f.ground.within f.ground.small
 
   pub entry-short : (ws ts : List ℕ) (k : ℕ) (ps : List Placed) → Every (Grounded l ws ts) ps → length (entry_of l ps k) ≤ most
   entry-short ws ts k ps gs = short_in ws ts k (last_in l k ps) (slot_owned l ws ts k ps gs)
@@ -159,8 +159,8 @@ one_of (is_variable i v) = omega arith
 one_of (is_function i t) = omega arith
 
 one_in_lem : (o : Option Placed) → one_in variable_one o + one_in function_one o ≤ 1
-one_in_lem none = omega arith
-one_in_lem (some p) = one_of p.it
+one_in_lem None = omega arith
+one_in_lem (Some p) = one_of p.it
 
 module _ (l : Lent) (ws ts last : List ℕ) (n i : ℕ) (s : Tally) (there : n ≡ many l) (ps : List Placed) (known : Known l ws ts last ps) (so : Counting l ps n i s) where
   sofar-small : i ≤ n → Small s

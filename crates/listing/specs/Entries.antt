@@ -1,11 +1,9 @@
 -- Document 01, "The listing": the lines of one name and of all names in table order, and what is left where they are written.
-use Rattle.std.specs.Prelude.{List, [], ◌++◌, map, ◌≡◌, true, ℕ, ◌<◌}
-use Rattle.std.proofs.Math.Option.{Option, none, some}
+use Rattle.std.specs.Prelude.{List, [], ◌++◌, map, ◌≡◌, true, ℕ, ◌<◌, None, Option, Some, Ok}
 use Rattle.arena.specs.Tree.{Tree}
 use Rattle.tables.specs.Layout.{Lent, variable_at, function_at, tables_of}
 use Rattle.tables.specs.Rules.{lawful}
 use Rattle.shapes.specs.Shows.{Standing, Reads}
-use Rattle.sorts.specs.Result.{ok}
 use Rattle.values.specs.Normal.{normal}
 use Rattle.values.specs.Value.{Value}
 use Rattle.value_text.specs.Laid.{Lays}
@@ -19,17 +17,17 @@ use Rattle.listing.specs.Grounds.{ValueStands, TableStands, Known}
 module _ (l : Lent) where
   -- the lines of a definition
   abbrev pub entry : Definition → List ℕ
-  entry (is_variable i v) = variable_lines (variable_at l i) (some v)
-  entry (is_function i t) = function_lines (function_at l i) (some t)
+  entry (is_variable i v) = variable_lines (variable_at l i) (Some v)
+  entry (is_function i t) = function_lines (function_at l i) (Some t)
 
   -- of a slot's, as it stands and settled
   abbrev pub entry_in : Option Placed → List ℕ
-  entry_in none = []
-  entry_in (some p) = entry p.it
+  entry_in None = []
+  entry_in (Some p) = entry p.it
 
   abbrev pub settled_in : Option Placed → List ℕ
-  settled_in none = []
-  settled_in (some p) = entry (settled p.it)
+  settled_in None = []
+  settled_in (Some p) = entry (settled p.it)
 
   -- of all, in table order
   abbrev pub entries : List Definition → List ℕ
@@ -40,19 +38,19 @@ module _ (l : Lent) (ws ts : List ℕ) where
   abbrev pub LaysVariable : ℕ → ℕ → List ℕ → List ℕ → ℕ → ℕ → Type 0
   LaysVariable row value before after place r =
       (v : Value) → ValueStands l ws ts v value →
-      Lays (variable_lines (variable_at l row) (some v)) (variable_lines (variable_at l row) (some (normal v))) before after place r
+      Lays (variable_lines (variable_at l row) (Some v)) (variable_lines (variable_at l row) (Some (normal v))) before after place r
 
   -- a function's, by the node of its body and its argument's text, and by the node of its command
   abbrev pub LaysBody : ℕ → ℕ → ℕ → ℕ → List ℕ → List ℕ → ℕ → ℕ → Type 0
   LaysBody row offset long body before after place r =
       (x : List ℕ) (b : Tree) (argument result : ℕ) (t : Table) → Reads x ts offset long → Standing b ws ts body →
-      read_body (tables_of l) x argument result b ≡ ok t → TableFits (tables_of l) argument result t →
-      Lays (function_lines (function_at l row) (some t)) (function_lines (function_at l row) (some (settled_table t))) before after place r
+      read_body (tables_of l) x argument result b ≡ Ok t → TableFits (tables_of l) argument result t →
+      Lays (function_lines (function_at l row) (Some t)) (function_lines (function_at l row) (Some (settled_table t))) before after place r
 
   abbrev pub LaysFunction : ℕ → ℕ → List ℕ → List ℕ → ℕ → ℕ → Type 0
   LaysFunction row node before after place r =
       (t : Table) → lawful (tables_of l) ≡ true → TableStands l ws ts row t node →
-      Lays (function_lines (function_at l row) (some t)) (function_lines (function_at l row) (some (settled_table t))) before after place r
+      Lays (function_lines (function_at l row) (Some t)) (function_lines (function_at l row) (Some (settled_table t))) before after place r
 
   -- a slot's lines and those of all slots, by what is noted
   abbrev pub LaysEntry : List ℕ → ℕ → List ℕ → List ℕ → ℕ → ℕ → Type 0

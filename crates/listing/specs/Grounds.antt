@@ -1,12 +1,10 @@
 -- Document 01, "The model walk", and document 02, R-1: what a definition that is noted stands on: a variable's value at its node, a function's command at its.
-use Rattle.std.specs.Prelude.{◌≡◌, true, List, [], ◌∷◌, ℕ, ◌^◌, ◌<◌}
-use Rattle.std.proofs.Math.Option.{Option}
+use Rattle.std.specs.Prelude.{◌≡◌, true, List, [], ◌∷◌, ℕ, ◌^◌, ◌<◌, Option, Ok}
 use Rattle.order.specs.Every.{Every}
 use Rattle.arena.specs.Tree.{Tree}
 use Rattle.tables.specs.Layout.{Lent, tables_of}
 use Rattle.tables.specs.Rules.{lawful}
 use Rattle.shapes.specs.Shows.{Standing}
-use Rattle.sorts.specs.Result.{ok}
 use Rattle.sorts.specs.Sort.{levels}
 use Rattle.values.specs.HasSort.{HasSort, Loose}
 use Rattle.values.specs.Value.{Value}
@@ -25,7 +23,7 @@ module _ (l : Lent) (ws ts : List ℕ) where
     pub there : Standing tree ws ts node
     pub expected : Option ℕ
     pub lit : Lit
-    pub reads : read (tables_of l) levels expected tree ≡ ok lit
+    pub reads : read (tables_of l) levels expected tree ≡ Ok lit
     pub same : lit.value ≡ v
     pub fits : HasSort lit.value Loose (tables_of l) lit.row
 
@@ -34,7 +32,7 @@ module _ (l : Lent) (ws ts : List ℕ) where
     pub tree : Tree
     pub there : Standing tree ws ts node
     pub octets : Octets tree
-    pub reads : read_command (tables_of l) (command tree) ≡ ok (is_function row t ∷ [])
+    pub reads : read_command (tables_of l) (command tree) ≡ Ok (is_function row t ∷ [])
 
   abbrev pub Stands : Definition → ℕ → ℕ → Type 0
   Stands (is_variable row v) node value = ValueStands v value

@@ -1,6 +1,5 @@
 -- Document 01, "The listing", the counts and the need: how many names are defined, and how long their lines are with repeats kept.
-use Rattle.std.specs.Prelude.{◌≡◌, List, ℕ, ◌+◌, ◌^◌, ◌≤◌, ◌<◌, length}
-use Rattle.std.proofs.Math.Option.{Option, none, some}
+use Rattle.std.specs.Prelude.{◌≡◌, List, ℕ, ◌+◌, ◌^◌, ◌≤◌, ◌<◌, length, None, Option, Some}
 use Rattle.decimals.specs.Decimal.{digit_count}
 use Rattle.tables.specs.Layout.{Lent, word, name_at, tables_of}
 use Rattle.model.specs.Model.{Definition, is_variable, is_function}
@@ -28,8 +27,8 @@ function_one (is_variable i v) = 0
 function_one (is_function i t) = 1
 
 abbrev pub one_in : (Definition → ℕ) → Option Placed → ℕ
-one_in one none = 0
-one_in one (some p) = one p.it
+one_in one None = 0
+one_in one (Some p) = one p.it
 
 -- one slot more, where no word overflows
 pub record Small (s : Tally) : Type 0 where

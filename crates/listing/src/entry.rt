@@ -57,12 +57,10 @@ pub fn write_entries(
 {
     let rows = count(variables) + count(functions);
     let mut to = place;
-    let mut slot = 0;
-    while slot < rows {
+    for slot in 0..rows {
         to = write_entry(
             sorts, variables, functions, members, names, nodes, text, last, slot, scratch, out, to,
         );
-        slot += 1;
     }
     to
 }

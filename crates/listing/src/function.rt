@@ -49,25 +49,20 @@ pub fn write_function(
     ensures { WritesFunction sorts.now functions.now members.now names.now nodes.now text.now row node out.old out.new place result }
 {
     let command = command_at(nodes, text, node);
-    match command {
-        CommandFound::Variable {
-            size: _,
-            offset: _,
-            sort: _,
-            value: _,
-        } => place,
-        CommandFound::Function {
-            size: _,
-            offset: _,
-            arg_length,
-            arg_offset,
-            arg_sort: _,
-            sort: _,
-            body,
-        } => write_table_lines(
-            sorts, functions, members, names, nodes, text, row, arg_offset, arg_length, body,
-            scratch, out, place,
-        ),
-        CommandFound::Refused(_) => place,
-    }
+    let Ok(found) = command else {
+        return place;
+    };
+    let CommandFound::Function {
+        arg_length,
+        arg_offset,
+        body,
+        ..
+    } = found
+    else {
+        return place;
+    };
+    write_table_lines(
+        sorts, functions, members, names, nodes, text, row, arg_offset, arg_length, body, scratch,
+        out, place,
+    )
 }

@@ -6,15 +6,14 @@ ghost use Rattle.listing.specs.Stages.{Zeroed, Finishes, Parted, Replied, Stored
 use crate::entry::write_entries;
 use crate::header::{header_need, write_header};
 use crate::tally::tally_entries;
-use arena_check::{Checked as Arena, check_arena};
+use arena_check::check_arena;
 use commands::Form;
-use lent::Written;
 use literals::plus;
 use moves::clear;
 use refusals::Refusal;
-use shapes::{Parts, list_at};
-use tables::{Checked, check_tables};
-use walk::{WORDS, Walked, walk_parts};
+use shapes::list_at;
+use tables::check_tables;
+use walk::{WORDS, walk_parts};
 
 // Zeros from a place up to another one.
 fn clear_between(out: &mut [u8], start: usize, end: usize)
@@ -41,21 +40,21 @@ fn list_noted(
     last: &[usize],
     scratch: &mut [u8],
     out: &mut [u8],
-) -> Written
+) -> Result<usize, Refusal>
     ensures { Finishes sorts.now variables.now functions.now members.now names.now nodes.now text.now last.now out.old result out.new }
 {
     let tally = tally_entries(variables, functions, names, last);
     let head = header_need(tally.variables, tally.functions);
     let need = plus(head, tally.need);
     if out.len() < need {
-        return Written::Refused(Refusal::OutRoom(need));
+        return Err(Refusal::OutRoom(need));
     }
     let start = write_header(tally.variables, tally.functions, out);
     let end = write_entries(
         sorts, variables, functions, members, names, nodes, text, last, scratch, out, start,
     );
     clear_between(out, end, need);
-    Written::Length(end)
+    Ok(end)
 }
 
 // So many parts from node 1 on.
@@ -73,18 +72,15 @@ fn list_parts(
     last: &mut [usize],
     scratch: &mut [u8],
     out: &mut [u8],
-) -> Written
+) -> Result<usize, Refusal>
     ensures { Parted form (record { sorts = sorts.now; fields = fields.now; variables = variables.now; functions = functions.now; members = members.now; names = names.now }) nodes.now text.now count last.old out.old result out.new }
 {
-    let walked = walk_parts(
+    walk_parts(
         form, sorts, fields, variables, functions, members, names, nodes, text, 1, count, last,
-    );
-    match walked {
-        Walked::Done => list_noted(
-            sorts, variables, functions, members, names, nodes, text, last, scratch, out,
-        ),
-        Walked::Refused(refusal) => Written::Refused(refusal),
-    }
+    )?;
+    list_noted(
+        sorts, variables, functions, members, names, nodes, text, last, scratch, out,
+    )
 }
 
 // A reply whose tables and arena passed; 13 where its root is no list.
@@ -101,17 +97,17 @@ fn list_checked(
     last: &mut [usize],
     scratch: &mut [u8],
     out: &mut [u8],
-) -> Written
+) -> Result<usize, Refusal>
     ensures { Replied form (record { sorts = sorts.now; fields = fields.now; variables = variables.now; functions = functions.now; members = members.now; names = names.now }) nodes.now text.now last.old out.old result out.new }
 {
     let list = list_at(nodes, 0);
-    match list {
-        Parts::Children(count) => list_parts(
-            form, sorts, fields, variables, functions, members, names, nodes, text, count, last,
-            scratch, out,
-        ),
-        Parts::NoList => Written::Refused(Refusal::UnexpectedModel),
-    }
+    let Some(count) = list else {
+        return Err(Refusal::UnexpectedModel);
+    };
+    list_parts(
+        form, sorts, fields, variables, functions, members, names, nodes, text, count, last,
+        scratch, out,
+    )
 }
 
 // A reply whose tables passed; 27 where the words and the text are no tree's.
@@ -128,17 +124,13 @@ fn list_stored(
     last: &mut [usize],
     scratch: &mut [u8],
     out: &mut [u8],
-) -> Written
+) -> Result<usize, Refusal>
     ensures { Stored form (record { sorts = sorts.now; fields = fields.now; variables = variables.now; functions = functions.now; members = members.now; names = names.now }) nodes.now text.now last.old out.old result out.new }
 {
-    let stored = check_arena(nodes, text);
-    match stored {
-        Arena::Tree { nodes: _, text: _ } => list_checked(
-            form, sorts, fields, variables, functions, members, names, nodes, text, last, scratch,
-            out,
-        ),
-        Arena::Refused(_) => Written::Refused(Refusal::BadArena),
-    }
+    check_arena(nodes, text)?;
+    list_checked(
+        form, sorts, fields, variables, functions, members, names, nodes, text, last, scratch, out,
+    )
 }
 
 // The last definitions of the tables' names in a reply of the form, in table order.
@@ -153,32 +145,30 @@ pub fn list_form(
     nodes: &[u64],
     text: &[u8],
     out: &mut [u8],
-) -> Written
+) -> Result<usize, Refusal>
     ensures { Lists form (record { sorts = sorts.now; fields = fields.now; variables = variables.now; functions = functions.now; members = members.now; names = names.now }) nodes.now text.now out.old result out.new }
 {
     let mut last: [usize; WORDS] = [0; WORDS];
     let mut scratch: [u8; 65536] = [0; 65536];
-    let tabled = check_tables(sorts, fields, variables, functions, members, names);
-    match tabled {
-        Checked::Passed => list_stored(
-            form,
-            sorts,
-            fields,
-            variables,
-            functions,
-            members,
-            names,
-            nodes,
-            text,
-            &mut last,
-            &mut scratch,
-            out,
-        ),
-        Checked::Refused(_) => Written::Refused(Refusal::BadTable),
-    }
+    check_tables(sorts, fields, variables, functions, members, names)?;
+    list_stored(
+        form,
+        sorts,
+        fields,
+        variables,
+        functions,
+        members,
+        names,
+        nodes,
+        text,
+        &mut last,
+        &mut scratch,
+        out,
+    )
 }
 
 // Of a model.
+// Stays: `list_model` and `list_values` are `list_form` at one form each, by the names that docs/CONTRACTS.md gives and C has.
 pub fn list_model(
     sorts: &[u64],
     fields: &[u64],
@@ -189,7 +179,7 @@ pub fn list_model(
     nodes: &[u64],
     text: &[u8],
     out: &mut [u8],
-) -> Written
+) -> Result<usize, Refusal>
     ensures { Lists Forms.Model (record { sorts = sorts.now; fields = fields.now; variables = variables.now; functions = functions.now; members = members.now; names = names.now }) nodes.now text.now out.old result out.new }
 {
     list_form(
@@ -217,7 +207,7 @@ pub fn list_values(
     nodes: &[u64],
     text: &[u8],
     out: &mut [u8],
-) -> Written
+) -> Result<usize, Refusal>
     ensures { Lists Forms.Values (record { sorts = sorts.now; fields = fields.now; variables = variables.now; functions = functions.now; members = members.now; names = names.now }) nodes.now text.now out.old result out.new }
 {
     list_form(

@@ -70,16 +70,16 @@ fn add_entry(
         let size = variable_need(variables, names, slot, long);
         return Tally {
             variables: plus(tally.variables, 1),
-            functions: tally.functions,
             need: plus(tally.need, size),
+            ..tally
         };
     }
     let row = slot - rows;
     let size = function_need(functions, names, row, long);
     Tally {
-        variables: tally.variables,
         functions: plus(tally.functions, 1),
         need: plus(tally.need, size),
+        ..tally
     }
 }
 
@@ -92,10 +92,8 @@ pub fn tally_entries(variables: &[u64], functions: &[u64], names: &[u8], last: &
         functions: 0,
         need: 0,
     };
-    let mut slot = 0;
-    while slot < rows {
+    for slot in 0..rows {
         tally = add_entry(variables, functions, names, last, slot, tally);
-        slot += 1;
     }
     tally
 }

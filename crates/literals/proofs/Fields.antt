@@ -1,7 +1,7 @@
 -- One field, and the length of a record's text.
 -- Assumes nothing.
+use Rattle.std.proofs.Common.{Err, Ok, Result}
 use mathlib.Core.Path.{◌≡◌, sym}
-use mathlib.Core.Bool.{Bool}
 use mathlib.Core.List.{List}
 use Prim.Native.Nat.{ℕ, ◌+◌, ◌-◌, ◌≤◌}
 use native.Mathlib.Omega.{arith}
@@ -10,19 +10,18 @@ use borrow.Author.Tests.{eq-eqb, ne_eqb}
 use Rattle.refusals.specs.declared.Refusal.{Refusal}
 use Rattle.refusals.specs.declared.Refusal.TheVariants.{UnmatchedFieldType}
 use Rattle.decimals.specs.Decimal.{digit_count}
-use Rattle.literals.specs.declared.answer.Literal.{Literal}
-use Rattle.literals.specs.declared.decode.Field.{Field}
 use Rattle.literals.specs.Answer.{capped}
 use Rattle.literals.specs.Field.{field_answer, record_need}
+use Rattle.literals.specs.declared.answer.Literal.{Literal}
 
-module _ (a : Literal) (row long wanted : ℕ) (is_set : Bool) (e : a ≡ Literal.Value row long is_set) where
-  pub field-other : (row ≡ wanted → ⊥) → Field.Refused UnmatchedFieldType ≡ field_answer a wanted
-  field-other h = rw (e, ne_eqb row wanted h)
+module _ (a : Result Literal Refusal) (it : Literal) (wanted : ℕ) (e : a ≡ Ok it) where
+  pub field-other : (it.row ≡ wanted → ⊥) → Err UnmatchedFieldType ≡ field_answer a wanted
+  field-other h = rw (e, ne_eqb it.row wanted h)
 
-  pub field-takes : row ≡ wanted → Field.Takes long ≡ field_answer a wanted
-  field-takes h = rw (e, eq-eqb row wanted h)
+  pub field-takes : it.row ≡ wanted → Ok it.need ≡ field_answer a wanted
+  field-takes h = rw (e, eq-eqb it.row wanted h)
 
-pub field-refused : (a : Literal) (r : Refusal) (wanted : ℕ) → a ≡ Literal.Refused r → Field.Refused r ≡ field_answer a wanted
+pub field-refused : (a : Result Literal Refusal) (r : Refusal) (wanted : ℕ) → a ≡ Err r → Err r ≡ field_answer a wanted
 field-refused a r wanted e = rw e
 
 module _ (row frame total : ℕ) (e : frame ≡ digit_count row + 3) (few : digit_count row ≤ 40) where

@@ -4,6 +4,7 @@ pub mod Unions
 pub mod Forms
 pub mod Words
 pub mod Numbers
+pub mod Done
 pub mod Made
 pub mod Plans
 pub mod Fields

@@ -5,22 +5,19 @@ ghost use Rattle.literals.specs.Answer.{capped, ValueOf};
 
 use decimals::digit_count;
 use refusals::Refusal;
-use sorts::{Sorted, row_of};
+use sorts::row_of;
 use tables::Wanted;
 
 // The row of the sort, how long the text is with repeats kept, and whether it is a set.
 #[derive(Clone, Copy)]
-pub enum Literal {
-    Value {
-        row: usize,
-        need: usize,
-        is_set: bool,
-    },
-    Refused(Refusal),
+pub struct Literal {
+    pub row: usize,
+    pub need: usize,
+    pub is_set: bool,
 }
 
 // The greatest length that is counted.
-const MOST: usize = 18446744073709551615;
+const MOST: usize = usize::MAX;
 
 // Words that are no arena can stand for a text longer than any; its length is cut off there.
 pub fn plus(a: usize, b: usize) -> usize
@@ -41,12 +38,14 @@ pub fn text_need(row: usize, size: usize) -> usize
 }
 
 // A value of a sort without a name.
-pub fn value_of(sorts: &[u64], wanted: Wanted, need: usize, is_set: bool) -> Literal
+pub fn value_of(
+    sorts: &[u64],
+    wanted: Wanted,
+    need: usize,
+    is_set: bool,
+) -> Result<Literal, Refusal>
     ensures { ValueOf sorts.now wanted need is_set result }
 {
-    let sorted = row_of(sorts, wanted);
-    match sorted {
-        Sorted::Row(row) => Literal::Value { row, need, is_set },
-        Sorted::Refused(refusal) => Literal::Refused(refusal),
-    }
+    let row = row_of(sorts, wanted)?;
+    Ok(Literal { row, need, is_set })
 }

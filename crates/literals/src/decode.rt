@@ -4,7 +4,7 @@ ghost use Rattle.literals.specs.Field.{field_answer, record_need};
 ghost use Rattle.literals.specs.Plan.{DecodesAt, FieldsAt};
 
 use crate::answer::{Literal, plus};
-use crate::form::{Expected, finish, union_of};
+use crate::form::{finish, union_of};
 use crate::plan::{Plan, plan_at};
 use arena::after;
 use decimals::digit_count;
@@ -23,29 +23,14 @@ fn field_row(fields: &[u64], first: usize, i: usize) -> usize
     fields[first + i] as usize
 }
 
-// A field's answer, of the row that it has to have.
-#[derive(Clone, Copy)]
-pub enum Field {
-    Takes(usize),
-    Refused(Refusal),
-}
-
-fn field_of(literal: Literal, wanted: usize) -> Field
+fn field_of(literal: Result<Literal, Refusal>, wanted: usize) -> Result<usize, Refusal>
     ensures { result ≡ field_answer literal wanted }
 {
-    match literal {
-        Literal::Value {
-            row,
-            need,
-            is_set: _,
-        } => {
-            if row != wanted {
-                return Field::Refused(Refusal::UnmatchedFieldType);
-            }
-            Field::Takes(need)
-        }
-        Literal::Refused(refusal) => Field::Refused(refusal),
+    let found = literal?;
+    if found.row != wanted {
+        return Err(Refusal::UnmatchedFieldType);
     }
+    Ok(found.need)
 }
 
 // `r`, the row, `(`, the fields with a comma between two, `)`; total counts each field and one byte more.
@@ -73,13 +58,12 @@ fn decode_fields(
     first: usize,
     count: usize,
     allow: usize,
-) -> Literal
+) -> Result<Literal, Refusal>
     ensures { FieldsAt sorts.now fields.now members.now names.now nodes.now text.now row node first count allow result }
 {
     let mut place = node;
     let mut total: usize = 0;
-    let mut i: usize = 0;
-    while i < count {
+    for i in 0..count {
         let wanted = field_row(fields, first, i);
         let literal = decode_literal(
             sorts,
@@ -89,26 +73,18 @@ fn decode_fields(
             nodes,
             text,
             place,
-            Expected::Row(wanted),
+            Some(wanted),
             allow,
         );
-        let field = field_of(literal, wanted);
-        match field {
-            Field::Takes(need) => {
-                total = plus(total, plus(need, 1));
-            }
-            Field::Refused(refusal) => {
-                return Literal::Refused(refusal);
-            }
-        }
+        let need = field_of(literal, wanted)?;
+        total = plus(total, plus(need, 1));
         place = after(nodes, place);
-        i += 1;
     }
-    Literal::Value {
+    Ok(Literal {
         row,
         need: record_need(row, total),
         is_set: false,
-    }
+    })
 }
 
 // The literal at a node, where a sort is expected or none, with so many levels.
@@ -121,20 +97,20 @@ pub fn decode_literal(
     nodes: &[u64],
     text: &[u8],
     at: usize,
-    expected: Expected,
+    expected: Option<usize>,
     allow: usize,
-) -> Literal
+) -> Result<Literal, Refusal>
     ensures { DecodesAt sorts.now fields.now members.now names.now nodes.now text.now at expected allow result }
 {
     if allow == 0 {
-        return Literal::Refused(Refusal::TooNested);
+        return Err(Refusal::TooNested);
     }
     let below = allow - 1;
     let plan = plan_at(
         sorts, fields, members, names, nodes, text, at, expected, below,
-    );
+    )?;
     match plan {
-        Plan::Done(literal) => literal,
+        Plan::Done(literal) => Ok(literal),
         Plan::One {
             value,
             inside,
@@ -142,16 +118,16 @@ pub fn decode_literal(
         } => {
             let inner = decode_literal(
                 sorts, fields, members, names, nodes, text, value, inside, below,
-            );
+            )?;
             finish(sorts, inner, then)
         }
         Plan::Two { left, right } => {
             let first = decode_literal(
                 sorts, fields, members, names, nodes, text, left, expected, below,
-            );
+            )?;
             let second = decode_literal(
                 sorts, fields, members, names, nodes, text, right, expected, below,
-            );
+            )?;
             union_of(first, second)
         }
         Plan::Record {

@@ -9,7 +9,7 @@ use arena::same;
 use decimals::{digit_count, signed_length};
 use refusals::Refusal;
 use shapes::Kind;
-use tables::{Found, Wanted, clamp, find_member, word};
+use tables::{Wanted, clamp, find_member, word};
 use words::Pair;
 
 // As many hex digits as the width takes.
@@ -23,7 +23,7 @@ pub fn hex_width(width: u64) -> u64
 }
 
 // `bv`, the width, `:`, and the digits.
-pub fn bits_of(sorts: &[u64], width: u64) -> Literal
+pub fn bits_of(sorts: &[u64], width: u64) -> Result<Literal, Refusal>
     ensures { BitsOf sorts.now width result }
 {
     let need = digit_count(width) + hex_width(width) as usize + 3;
@@ -31,7 +31,7 @@ pub fn bits_of(sorts: &[u64], width: u64) -> Literal
 }
 
 // `s:`, and two digits a byte.
-pub fn string_of(sorts: &[u64], size: usize) -> Literal
+pub fn string_of(sorts: &[u64], size: usize) -> Result<Literal, Refusal>
     ensures { StringOf sorts.now size result }
 {
     let need = plus(plus(size, size), 2);
@@ -49,7 +49,7 @@ fn wanted_of(kind: Kind) -> Wanted
 }
 
 // The mark, and the low word read as signed.
-pub fn extension_of(sorts: &[u64], kind: Kind, low: u64) -> Literal
+pub fn extension_of(sorts: &[u64], kind: Kind, low: u64) -> Result<Literal, Refusal>
     ensures { ExtensionOf sorts.now kind low result }
 {
     let pair = Pair { low, high: 0 };
@@ -58,21 +58,21 @@ pub fn extension_of(sorts: &[u64], kind: Kind, low: u64) -> Literal
 }
 
 // The member of a row; most is how many name bytes there are.
-fn member_of(members: &[u64], most: usize, row: usize) -> Literal
+fn member_of(members: &[u64], most: usize, row: usize) -> Result<Literal, Refusal>
     ensures { MemberOf members.now most row result }
 {
     let entity = word(members, row, 2) as usize;
     let range = clamp(word(members, row, 3), word(members, row, 4), most);
     let need = text_need(entity, range.end - range.start);
-    Literal::Value {
+    Ok(Literal {
         row: entity,
         need,
         is_set: false,
-    }
+    })
 }
 
 // `true`, `false`, or an enum member.
-fn word_lit(sorts: &[u64], members: &[u64], names: &[u8], name: &[u8]) -> Literal
+fn word_lit(sorts: &[u64], members: &[u64], names: &[u8], name: &[u8]) -> Result<Literal, Refusal>
     ensures { WordOf sorts.now members.now names.now name.now result }
 {
     if same(name, b"true") {
@@ -83,8 +83,8 @@ fn word_lit(sorts: &[u64], members: &[u64], names: &[u8], name: &[u8]) -> Litera
     }
     let found = find_member(members, names, name);
     match found {
-        Found::Row(row) => member_of(members, names.len(), row),
-        Found::NoRow => Literal::Refused(Refusal::UnknownLiteral),
+        Some(row) => member_of(members, names.len(), row),
+        None => Err(Refusal::UnknownLiteral),
     }
 }
 
@@ -96,7 +96,7 @@ pub fn word_of(
     text: &[u8],
     offset: u64,
     size: u64,
-) -> Literal
+) -> Result<Literal, Refusal>
     ensures { WordOf sorts.now members.now names.now (text_at text.now offset size) result }
 {
     let range = clamp(offset, size, text.len());

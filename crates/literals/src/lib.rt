@@ -10,5 +10,4 @@ mod plan;
 
 pub use answer::{Literal, plus};
 pub use decode::decode_literal;
-pub use form::Expected;
 pub use leaf::hex_width;

@@ -9,7 +9,7 @@ use crate::leaf::bits_of;
 use forms::parse_number;
 use refusals::Refusal;
 use tables::clamp;
-use words::{Pair, Parsed};
+use words::Pair;
 
 // The first width that cannot be written, and the first that holds every number of 128 bits.
 const WIDE: u64 = 4294967296;
@@ -17,21 +17,21 @@ const WIDE: u64 = 4294967296;
 const WHOLE: u64 = 128;
 
 // A number at a width of two words.
-fn at_width(sorts: &[u64], number: Pair, low: u64, high: u64) -> Literal
+fn at_width(sorts: &[u64], number: Pair, low: u64, high: u64) -> Result<Literal, Refusal>
     ensures { WidthOf sorts.now (value number) (low + high * 2 ^ 64) result }
 {
     if high != 0 {
-        return Literal::Refused(Refusal::IntegerOverflow);
+        return Err(Refusal::IntegerOverflow);
     }
     if WIDE <= low {
-        return Literal::Refused(Refusal::IntegerOverflow);
+        return Err(Refusal::IntegerOverflow);
     }
     if low == 0 {
-        return Literal::Refused(Refusal::ZeroWidthBitVec);
+        return Err(Refusal::ZeroWidthBitVec);
     }
     if low < WHOLE {
         if number.reaches(low) {
-            return Literal::Refused(Refusal::IntegerOverflow);
+            return Err(Refusal::IntegerOverflow);
         }
     }
     bits_of(sorts, low)
@@ -44,15 +44,12 @@ pub fn indexed_of(
     size: u64,
     low: u64,
     high: u64,
-) -> Literal
+) -> Result<Literal, Refusal>
     ensures { IndexedOf sorts.now (text_at text.now offset size) (low + high * 2 ^ 64) result }
 {
     let range = clamp(offset, size, text.len());
     let start = range.start;
     let end = range.end;
-    let parsed = parse_number(&text[start..end]);
-    match parsed {
-        Parsed::Number(number) => at_width(sorts, number, low, high),
-        Parsed::Refused(refusal) => Literal::Refused(refusal),
-    }
+    let number = parse_number(&text[start..end])?;
+    at_width(sorts, number, low, high)
 }

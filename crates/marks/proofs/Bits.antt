@@ -83,9 +83,6 @@ module _ (n k : ℕ) where
       let s : n ≡ n / 2 ^ (1 + k) * 2 ^ (1 + k) + (1 * 2 ^ k + n % 2 ^ k) = bits-split ∙ ap (λ (m : ℕ). n / 2 ^ (1 + k) * 2 ^ (1 + k) + (m * 2 ^ k + n % 2 ^ k)) o in
       (omega arith, omega arith)
 
-  pub unit-within : k < 64 → (n / 2 ^ k % 2 ≡ 0 → ⊥) → 1 * 2 ^ k % 2 ^ 64 ≤ n
-  unit-within h e = subst (λ (m : ℕ). m ≤ n) (sym (unit-is k h)) (clear-set e).0
-
   pub unit-taken : k < 64 → (n / 2 ^ k % 2 ≡ 0 → ⊥) → n - 1 * 2 ^ k % 2 ^ 64 ≡ with_bit n k false
   unit-taken h e = ap (λ (m : ℕ). n - m) (unit-is k h) ∙ (clear-set e).1
 

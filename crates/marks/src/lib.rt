@@ -11,12 +11,11 @@ const NODES: usize = 128;
 pub fn marked(marks: &[u64], node: usize) -> bool
     ensures { result ≡ marked marks.now node }
 {
-    let place = node / NODES;
-    if marks.len() <= place {
+    let Some(word) = marks.get(node / NODES) else {
         return false;
-    }
+    };
     let bit = (node / 2 % 64) as u64;
-    (marks[place] >> bit) % 2 == 1
+    (word >> bit) % 2 == 1
 }
 
 // A word with a bit taken out of it, where it is set.
@@ -25,9 +24,10 @@ fn cleared(word: u64, bit: u64) -> u64
     ensures { result ≡ with_bit word bit false }
 {
     if (word >> bit) % 2 == 0 {
-        return word;
+        word
+    } else {
+        word - (1u64 << bit)
     }
-    word - (1u64 << bit)
 }
 
 pub fn remember(marks: &mut [u64], node: usize, truth: bool)
@@ -39,9 +39,5 @@ pub fn remember(marks: &mut [u64], node: usize, truth: bool)
     }
     let bit = (node / 2 % 64) as u64;
     let word = cleared(marks[place], bit);
-    if truth {
-        marks[place] = word + (1u64 << bit);
-        return;
-    }
-    marks[place] = word;
+    marks[place] = if truth { word + (1u64 << bit) } else { word };
 }

@@ -1,6 +1,5 @@
 -- Document 01, "Sorts and literals": literals at the edges of the rules, which a wrong reader would take, or refuse by another number.
-use Rattle.std.specs.Prelude.{◌≡◌, refl, List, [], ◌∷◌, map, ◌-◌, ◌^◌}
-use Rattle.std.proofs.Math.Option.{none, some}
+use Rattle.std.specs.Prelude.{◌≡◌, refl, List, [], ◌∷◌, map, ◌-◌, ◌^◌, None, Some, Err, Ok, Result}
 use Prim.Native.String.{String}
 use Rattle.ground.specs.Bytes.{bytes}
 use Rattle.ground.specs.Lists.{find, at}
@@ -10,10 +9,11 @@ use Rattle.arena.specs.Tree.{Tree, Trees, bit_vec, symbol, string as quoted, app
 use Rattle.tables.specs.Find.{sort_row, named_sort, member_row}
 use Rattle.tables.specs.Sort.{bool, string, bit_vec as bits, option_of, record_of, Tables}
 use Rattle.shapes.specs.Shape.{shape}
-use Rattle.sorts.specs.Result.{Result, ok, refused, ◌>>=◌, unless}
+use Rattle.sorts.specs.Result.{◌>>=◌, unless}
 use Rattle.values.specs.Value.{v_bits}
 use Rattle.values.specs.Text.{hex_width}
 use Rattle.means.specs.Literal.{Lit, lit, read, read_with}
+use Rattle.refusals.specs.declared.Refusal.{Refusal}
 
 abbrev pub list : List Tree → Trees
 list [] = nil
@@ -35,25 +35,25 @@ tables = record {
 }
 
 -- fields too few, too many, and of another sort
-no_field : read tables 9 none (of (word "R" ∷ [])) ≡ refused UnmatchedRecordType
+no_field : read tables 9 None (of (word "R" ∷ [])) ≡ Err UnmatchedRecordType
 unfolding read_with shape find at same_text sort_row named_sort member_row ◌>>=◌ unless
 no_field = refl
 
-two_fields : read tables 9 none (of (word "R" ∷ word "true" ∷ word "true" ∷ [])) ≡ refused UnmatchedRecordType
+two_fields : read tables 9 None (of (word "R" ∷ word "true" ∷ word "true" ∷ [])) ≡ Err UnmatchedRecordType
 unfolding read_with shape find at same_text sort_row named_sort member_row ◌>>=◌ unless
 two_fields = refl
 
-other-field : read tables 9 none (of (word "R" ∷ quoted [] ∷ [])) ≡ refused UnmatchedFieldType
+other-field : read tables 9 None (of (word "R" ∷ quoted [] ∷ [])) ≡ Err UnmatchedFieldType
 unfolding read_with shape find at same_text sort_row named_sort member_row ◌>>=◌ unless
 other-field = refl
 
 -- `some` where a record is expected
-no_option : read tables 9 (some 3) (of (word "some" ∷ word "true" ∷ [])) ≡ refused UnknownLiteral
+no_option : read tables 9 (Some 3) (of (word "some" ∷ word "true" ∷ [])) ≡ Err UnknownLiteral
 unfolding read_with shape find at same_text sort_row named_sort member_row ◌>>=◌ unless
 no_option = refl
 
 -- a field one level further than may be read
-too-deep : read tables 1 none (of (word "R" ∷ word "true" ∷ [])) ≡ refused TooNested
+too-deep : read tables 1 None (of (word "R" ∷ word "true" ∷ [])) ≡ Err TooNested
 unfolding read_with shape find at same_text sort_row named_sort member_row ◌>>=◌ unless
 too-deep = refl
 
@@ -65,9 +65,9 @@ widths = refl
 abbrev vectors : Tables
 vectors = record { sorts = bits 127 ∷ bits 4 ∷ []; variables = []; functions = []; members = [] }
 
-abbrev ones : List (Result Lit)
-ones = read vectors 9 none (bit_vec 127 (2 ^ 128 - 1)) ∷ read vectors 9 none (bit_vec 4 (2 ^ 128 - 1)) ∷ []
+abbrev ones : List (Result Lit Refusal)
+ones = read vectors 9 None (bit_vec 127 (2 ^ 128 - 1)) ∷ read vectors 9 None (bit_vec 4 (2 ^ 128 - 1)) ∷ []
 
-unsigned-read : ones ≡ ok (lit 0 (v_bits 127 (2 ^ 127 - 1))) ∷ ok (lit 1 (v_bits 4 15)) ∷ []
+unsigned-read : ones ≡ Ok (lit 0 (v_bits 127 (2 ^ 127 - 1))) ∷ Ok (lit 1 (v_bits 4 15)) ∷ []
 unfolding read_with shape find at same_text sort_row named_sort member_row ◌>>=◌ unless
 unsigned-read = refl

@@ -1,6 +1,5 @@
 -- Document 02, R-2: literals with operators, worked out: what is expected of operands, the order of refusals, levels, and the values at the edges.
-use Rattle.std.specs.Prelude.{◌≡◌, refl, true, false, List, [], ◌∷◌, map, ℕ, zero, suc, ◌-◌, ◌^◌}
-use Rattle.std.proofs.Math.Option.{none, some}
+use Rattle.std.specs.Prelude.{◌≡◌, refl, true, false, List, [], ◌∷◌, map, ℕ, zero, suc, ◌-◌, ◌^◌, None, Some, Err, Ok, Result}
 use Prim.Native.String.{String}
 use Rattle.std.proofs.Math.Decide.{ℕ_discrete}
 use Rattle.ground.specs.Lists.{find, at, all}
@@ -16,7 +15,7 @@ use Rattle.tables.specs.Find.{sort_row, named_sort, member_row}
 use Rattle.tables.specs.Sort.{Sort, bool, bit_vec as bits, option_of, set_of, Tables}
 use Rattle.shapes.specs.Shape.{shape}
 use Rattle.shapes.specs.SortShape.{sort_shape}
-use Rattle.sorts.specs.Result.{Result, ok, refused, ◌>>=◌, unless}
+use Rattle.sorts.specs.Result.{◌>>=◌, unless}
 use Rattle.sorts.specs.Sort.{levels, read_sort}
 use Rattle.values.specs.Equal.{equal}
 use Rattle.values.specs.Normal.{normal, arranged_values}
@@ -24,6 +23,7 @@ use Rattle.values.specs.Text.{text, hex, hex_digit}
 use Rattle.values.specs.Value.{v_bool, v_bits, v_set, v_nil, v_cons}
 use Rattle.means.specs.Literal.{Lit, lit, read_with}
 use Rattle.means.specs.Samples.{word, of}
+use Rattle.refusals.specs.declared.Refusal.{Refusal}
 
 -- a word and its operands
 abbrev call : String → List Tree → Tree
@@ -33,17 +33,17 @@ abbrev tables : List Sort → Tables
 tables sorts = record { sorts = sorts; variables = []; functions = []; members = [] }
 
 -- a literal over the sorts, of which nothing is expected
-abbrev worked : List Sort → Tree → Result Lit
-worked sorts t = read_with (tables sorts) true 9 none t
+abbrev worked : List Sort → Tree → Result Lit Refusal
+worked sorts t = read_with (tables sorts) true 9 None t
 
 abbrev truth : Tree
 truth = word "true"
 
-abbrev is_true : Result Lit
-is_true = ok (lit 0 (v_bool true))
+abbrev is_true : Result Lit Refusal
+is_true = Ok (lit 0 (v_bool true))
 
-abbrev is_false : Result Lit
-is_false = ok (lit 0 (v_bool false))
+abbrev is_false : Result Lit Refusal
+is_false = Ok (lit 0 (v_bool false))
 
 -- (some true)
 abbrev one : Tree
@@ -53,9 +53,9 @@ one = call "some" (truth ∷ [])
 expected :
     worked (bool ∷ option_of 0 ∷ []) (call "not" (one ∷ []))
     ∷ worked (bool ∷ option_of 0 ∷ []) (call "=" (one ∷ one ∷ []))
-    ∷ read_with (tables (bool ∷ option_of 0 ∷ [])) true 9 (some 0) (call "ite" (truth ∷ one ∷ one ∷ []))
+    ∷ read_with (tables (bool ∷ option_of 0 ∷ [])) true 9 (Some 0) (call "ite" (truth ∷ one ∷ one ∷ []))
     ∷ []
-    ≡ refused UnmatchedType ∷ is_true ∷ refused UnknownLiteral ∷ []
+    ≡ Err UnmatchedType ∷ is_true ∷ Err UnknownLiteral ∷ []
 unfolding read_with shape find at same_text sort_row ◌>>=◌ unless normal equal
 expected = refl
 
@@ -66,7 +66,7 @@ ordered :
     ∷ worked (bits 1 ∷ []) (call "not" (bit_vec 1 1 ∷ []))
     ∷ worked (bits 1 ∷ []) (call "=" (bit_vec 1 1 ∷ bit_vec 1 1 ∷ []))
     ∷ []
-    ≡ refused UnmatchedType ∷ refused UnknownLiteral ∷ refused UnmatchedType ∷ refused NoSortRow ∷ []
+    ≡ Err UnmatchedType ∷ Err UnknownLiteral ∷ Err UnmatchedType ∷ Err NoSortRow ∷ []
 unfolding read_with shape find same_text sort_row member_row ◌>>=◌ unless
 ordered = refl
 
@@ -74,7 +74,7 @@ ordered = refl
 abbrev address : Tree
 address = call "V4" (truth ∷ truth ∷ [])
 
-uncovered : worked (bool ∷ []) (call "ite" (truth ∷ truth ∷ address ∷ [])) ≡ refused NotCovered
+uncovered : worked (bool ∷ []) (call "ite" (truth ∷ truth ∷ address ∷ [])) ≡ Err NotCovered
 unfolding read_with shape find same_text sort_row ◌>>=◌ unless
 uncovered = refl
 
@@ -91,7 +91,7 @@ miscounted =
     ∷ call "bvsmulo" (address ∷ [])
     ∷ []
 
-unread : map (worked (bool ∷ [])) miscounted ≡ map (λ t. refused UnknownLiteral) miscounted
+unread : map (worked (bool ∷ [])) miscounted ≡ map (λ t. Err UnknownLiteral) miscounted
 unfolding read_with shape find same_text sort_row named_sort ◌>>=◌
 unread = refl
 
@@ -100,13 +100,13 @@ abbrev nots : ℕ → Tree
 nots zero = truth
 nots (suc n) = call "not" (nots n ∷ [])
 
-deep : read_with (tables (bool ∷ [])) true levels none (nots 1023) ∷ read_with (tables (bool ∷ [])) true levels none (nots 1024) ∷ []
-    ≡ is_false ∷ refused TooNested ∷ []
+deep : read_with (tables (bool ∷ [])) true levels None (nots 1023) ∷ read_with (tables (bool ∷ [])) true levels None (nots 1024) ∷ []
+    ≡ is_false ∷ Err TooNested ∷ []
 unfolding read_with shape find same_text sort_row ◌>>=◌ unless
 deep = refl
 
 -- bool; bitvec 8; set 1; set 2; bitvec 1; bitvec 128
-abbrev seen : Tree → Result Lit
+abbrev seen : Tree → Result Lit Refusal
 seen t = worked (bool ∷ bits 8 ∷ set_of 1 ∷ set_of 2 ∷ bits 1 ∷ bits 128 ∷ []) t
 
 abbrev byte : ℕ → Tree
@@ -129,7 +129,7 @@ equalities :
     ∷ (set (byte 2), set (set (byte 2)))
     ∷ []
     )
-    ≡ is_true ∷ is_true ∷ is_true ∷ is_false ∷ is_false ∷ refused UnmatchedType ∷ []
+    ≡ is_true ∷ is_true ∷ is_true ∷ is_false ∷ is_false ∷ Err UnmatchedType ∷ []
 unfolding read_with shape find same_text sort_row ◌>>=◌ unless normal arranged_values arranged insert before text hex hex_digit decimal last_digits digit_count_within equal ℕ_discrete
 equalities = refl
 
@@ -143,10 +143,10 @@ branches :
     ∷ seen (call "ite" (byte 1 ∷ empty ∷ empty ∷ []))
     ∷ seen (call "ite" (truth ∷ empty ∷ byte 1 ∷ []))
     ∷ []
-    ≡ ok (lit 2 (v_set (v_cons (v_bits 8 2) (v_cons (v_bits 8 1) (v_cons (v_bits 8 2) v_nil)))))
-    ∷ ok (lit 2 (v_set v_nil))
-    ∷ refused UnmatchedType
-    ∷ refused UnmatchedType
+    ≡ Ok (lit 2 (v_set (v_cons (v_bits 8 2) (v_cons (v_bits 8 1) (v_cons (v_bits 8 2) v_nil)))))
+    ∷ Ok (lit 2 (v_set v_nil))
+    ∷ Err UnmatchedType
+    ∷ Err UnmatchedType
     ∷ []
 unfolding read_with read_sort shape sort_shape find at same_text sort_row ◌>>=◌ unless
 branches = refl
@@ -170,6 +170,6 @@ overflows :
     ∷ call "bvnego" (truth ∷ [])
     ∷ []
     )
-    ≡ is_true ∷ is_false ∷ is_true ∷ is_true ∷ is_false ∷ is_true ∷ is_false ∷ is_true ∷ is_true ∷ refused UnmatchedType ∷ refused UnmatchedType ∷ []
+    ≡ is_true ∷ is_false ∷ is_true ∷ is_true ∷ is_false ∷ is_true ∷ is_false ∷ is_true ∷ is_true ∷ Err UnmatchedType ∷ Err UnmatchedType ∷ []
 unfolding read_with shape find same_text sort_row ◌>>=◌ unless signed all from parsed worth
 overflows = refl

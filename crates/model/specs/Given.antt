@@ -1,5 +1,5 @@
 -- Document 02, R-1: replies to get-value, what they list and what they are refused by; each is one that a hasty reader takes for another.
-use Rattle.std.specs.Prelude.{◌≡◌, refl, List, [], ◌∷◌, ◌++◌, map, ℕ}
+use Rattle.std.specs.Prelude.{◌≡◌, refl, List, [], ◌∷◌, ◌++◌, map, ℕ, Err, Ok, Result}
 use Prim.Native.String.{String}
 use Rattle.ground.specs.Bytes.{bytes}
 use Rattle.ground.specs.Lists.{find, at}
@@ -10,7 +10,7 @@ use Rattle.decimals.specs.Decimal.{decimal, last_digits, digit_count_within}
 use Rattle.tables.specs.Find.{sort_row, named_sort, variable_row, function_row, member_row}
 use Rattle.tables.specs.Sort.{bool, bit_vec as bits, Tables}
 use Rattle.shapes.specs.Shape.{shape}
-use Rattle.sorts.specs.Result.{Result, ok, refused, ◌>>=◌, unless}
+use Rattle.sorts.specs.Result.{◌>>=◌, unless}
 use Rattle.values.specs.Normal.{normal}
 use Rattle.values.specs.Text.{text}
 use Rattle.means.specs.Literal.{read_with}
@@ -18,6 +18,7 @@ use Rattle.means.specs.Samples.{word, of}
 use Rattle.commands.specs.Command.{command}
 use Rattle.model.specs.Model.{Definition, read_parts, read_reply, read_model, read_values, last_variable, last_function}
 use Rattle.model.specs.Listing.{line, rendered, listing}
+use Rattle.refusals.specs.declared.Refusal.{Refusal}
 
 -- bool; bitvec 1; var b 0; fun f 0 0
 abbrev tables : Tables
@@ -28,18 +29,18 @@ tables = record {
   members = [];
 }
 
-abbrev listed : Result (List Definition) → Result (List ℕ)
-listed m = m >>= λ ds. ok (listing tables ds)
+abbrev listed : Result (List Definition) Refusal → Result (List ℕ) Refusal
+listed m = m >>= λ ds. Ok (listing tables ds)
 
 -- (NAME VALUE), both symbols
 abbrev given : String → String → Tree
 given name value = of (word name ∷ word value ∷ [])
 
-abbrev nothing : Result (List ℕ)
-nothing = ok (bytes "vars=0\nfuns=0\n")
+abbrev nothing : Result (List ℕ) Refusal
+nothing = Ok (bytes "vars=0\nfuns=0\n")
 
-abbrev one : String → Result (List ℕ)
-one value = ok (bytes "vars=1\nfuns=0\nvar=b\nsort=0\n" ++ line "value" (bytes value))
+abbrev one : String → Result (List ℕ) Refusal
+one value = Ok (bytes "vars=1\nfuns=0\nvar=b\nsort=0\n" ++ line "value" (bytes value))
 
 -- the value of its last pair; what is not in the variable table is skipped unread, a function's name and one with its bars among it
 taken :
@@ -88,8 +89,8 @@ refusals :
     ∷ (of (of (word "b" ∷ []) ∷ word "true" ∷ []) ∷ [])
     ∷ [])
     ≡
-    refused UnknownLiteral ∷ refused UnknownLiteral ∷ refused UnknownLiteral ∷ refused UnmatchedType
-    ∷ refused UnexpectedModel ∷ refused UnexpectedModel ∷ refused UnexpectedModel ∷ refused UnexpectedModel ∷ refused UnexpectedModel
+    Err UnknownLiteral ∷ Err UnknownLiteral ∷ Err UnknownLiteral ∷ Err UnmatchedType
+    ∷ Err UnexpectedModel ∷ Err UnexpectedModel ∷ Err UnexpectedModel ∷ Err UnexpectedModel ∷ Err UnexpectedModel
     ∷ []
 unfolding find at same_text decimal last_digits digit_count_within sort_row named_sort variable_row function_row member_row shape ◌>>=◌ unless normal text read_with read_parts read_reply last_variable last_function rendered listing
 refusals = refl
@@ -100,6 +101,6 @@ roots :
     ∷ listed (read_values tables (of (of (word "define-fun" ∷ word "b" ∷ of [] ∷ word "Bool" ∷ word "true" ∷ []) ∷ [])))
     ∷ listed (read_model tables (of []))
     ∷ []
-    ≡ refused UnexpectedModel ∷ refused UnexpectedModel ∷ refused UnexpectedModel ∷ nothing ∷ []
+    ≡ Err UnexpectedModel ∷ Err UnexpectedModel ∷ Err UnexpectedModel ∷ nothing ∷ []
 unfolding find at same_text decimal last_digits digit_count_within sort_row named_sort variable_row function_row member_row shape ◌>>=◌ unless normal text read_with command read_parts read_reply last_variable last_function rendered listing
 roots = refl

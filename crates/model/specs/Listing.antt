@@ -1,6 +1,5 @@
 -- Document 01, "The listing": the bytes of the last definitions, and the need, which is the same text with repeats kept.
-use Rattle.std.specs.Prelude.{true, List, [], ◌∷◌, ◌++◌, map, ℕ, suc, ◌+◌, length}
-use Rattle.std.proofs.Math.Option.{Option, none, some}
+use Rattle.std.specs.Prelude.{true, List, [], ◌∷◌, ◌++◌, map, ℕ, suc, ◌+◌, length, None, Option, Some}
 use Prim.Native.String.{String}
 use Rattle.ground.specs.Bytes.{bytes}
 use Rattle.order.specs.Order.{arranged}
@@ -20,12 +19,12 @@ arm_lines [] = []
 arm_lines (a ∷ as') = line "when" (text a.«when») ++ (line "then" (text a.«then») ++ arm_lines as')
 
 abbrev pub variable_lines : Variable → Option Value → List ℕ
-variable_lines v none = []
-variable_lines v (some x) = line "var" v.name ++ (line "sort" (decimal v.sort) ++ line "value" (text x))
+variable_lines v None = []
+variable_lines v (Some x) = line "var" v.name ++ (line "sort" (decimal v.sort) ++ line "value" (text x))
 
 abbrev pub function_lines : Function → Option Table → List ℕ
-function_lines f none = []
-function_lines f (some t) =
+function_lines f None = []
+function_lines f (Some t) =
     line "fun" f.name ++ (line "arg" (decimal f.argument) ++ (line "out" (decimal f.result) ++ (arm_lines t.arms ++ line "else" (text t.«else»))))
 
 module _ (ds : List Definition) where
@@ -39,9 +38,9 @@ module _ (ds : List Definition) where
   functions_from i (f ∷ fs) = function_lines f (last_function i ds) ++ functions_from (suc i) fs
 
   -- how many are defined, each once
-  abbrev pub one {ℓ} : {A : Type ℓ} → Option A → ℕ
-  one none = 0
-  one (some a) = 1
+  abbrev pub one : {A : Type 0} → Option A → ℕ
+  one None = 0
+  one (Some a) = 1
 
   abbrev pub variable_count : ℕ → List Variable → ℕ
   variable_count i [] = 0

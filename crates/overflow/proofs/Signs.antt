@@ -1,12 +1,11 @@
 -- Whole numbers by sign and size: which leave the range, the number that the lowest bits are, and the three results.
 -- Assumes nothing.
-use Rattle.std.proofs.Common.{◌≡◌, ℕ, zero, suc, ◌+◌, ◌-◌, ◌%◌, ◌^◌, ◌<◌, ◌≤◌, Bool, true, false, not, ◌&&◌, ltb, leb, ℤ, pos, negsuc, ◌-ℤ◌, neg_ℤ, sym, ap, ◌∙◌, subst, ap₂, le_trans, lt_of_lt_of_le, lt_irrefl, mod-lt, mod-eq_of_lt, arith, pow_pos, pow_mono, le-ltb, lt-ltb, le-leb, leb-false, leb-true}
+use Rattle.std.proofs.Common.{◌≡◌, ℕ, zero, suc, ◌+◌, ◌-◌, ◌%◌, ◌^◌, ◌<◌, ◌≤◌, Bool, true, false, not, ◌&&◌, ltb, leb, ℤ, pos, negsuc, ◌-ℤ◌, neg_ℤ, sym, ap, ◌∙◌, subst, ap₂, le_trans, lt_of_lt_of_le, lt_irrefl, mod-lt, mod-eq_of_lt, arith, pow_pos, pow_mono, le-ltb, lt-ltb, le-leb, leb-false, leb-true, None, Some}
 use lib.Signed.{le_z, lt_z}
 use lib.Pow.{pow-lt}
 use borrow.Author.Tests.{lt-leb}
 use Rattle.ground.proofs.Tests.{by_order}
 use Rattle.words.specs.declared.pair.Pair.{Pair}
-use Rattle.words.specs.declared.pair.Grown.TheVariants.{Fit, Over}
 use Rattle.words.specs.Pair.{value, pair_of, grown}
 use Rattle.words.specs.Extension.{signed, extended}
 use Rattle.words.proofs.Numbers.{too_far, fit-value, value-pair}
@@ -72,13 +71,13 @@ module _ (w : ℕ) (b : Bool) (n : ℕ) (h : w ≤ 128) where
       past true = omega arith
       past false = omega arith
 
-  pub told_over : Over ≡ grown n → true ≡ tells w (signed_by b n)
+  pub told_over : None ≡ grown n → true ≡ tells w (signed_by b n)
   told_over e =
       let i : w - 1 < 128 = omega arith in
       sym (le-leb (2 ^ (w - 1)) (held b n) (held-past (2 ^ (w - 1)) (lt_of_lt_of_le (pow-lt i) (too_far n (sym e)))))
       ∙ sym (overflows-by w b n) ∙ tells_all w (signed_by b n) h
 
-module _ (w n s : ℕ) (h : w ≤ 128) (e : s ≡ w - 1) (p : Pair) (k : Fit p ≡ grown n) (r : Bool) where
+module _ (w n s : ℕ) (h : w ≤ 128) (e : s ≡ w - 1) (p : Pair) (k : Some p ≡ grown n) (r : Bool) where
   pub told-natural : r ≡ leb (2 ^ s) (value p) → r ≡ tells w (signed_by false n)
   told-natural g = reach w false n h s e (value p) (fit-value n p (sym k)) r g
 

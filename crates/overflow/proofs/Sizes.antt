@@ -1,95 +1,45 @@
--- Numbers of 128 bits without signs, in the code's steps: what is left up to 2 ^ 128, one less, and sums.
+-- Numbers of 128 bits without signs: a pair of words fits, and the words of a sum and of a product.
 -- Assumes nothing.
-use Rattle.std.proofs.Common.{◌≡◌, ℕ, ◌+◌, ◌-◌, ◌*◌, ◌/◌, ◌%◌, ◌^◌, ◌<◌, ◌≤◌, sym, refl, ap, ◌∙◌, ap₂, le_trans, le-add_right, mul-zero, mul-one, arith}
+use Rattle.std.proofs.Common.{◌≡◌, ℕ, ◌+◌, ◌*◌, ◌^◌, ◌<◌, ◌≤◌, sym, refl, ap, ◌∙◌, zero-mul, mul-zero, mul-le-mul, arith, None, Some}
 use Rattle.words.specs.declared.pair.Pair.{Pair}
-use Rattle.words.specs.declared.pair.Grown.TheVariants.{Fit, Over}
 use Rattle.words.specs.Pair.{value, grown}
 use Rattle.words.proofs.Numbers.{value-fits, too_large, fitting, pair_is, pair-value, grown-fit, grown-over}
 
--- two numbers of two words, word by word
-apart : (a b c d : ℕ) → a + b * 2 ^ 64 + (c + d * 2 ^ 64) ≡ (a + c) + (b + d) * 2 ^ 64
-apart a b c d = omega arith
-
-some : (low high : ℕ) → low ≡ 0 → 0 < low + high * 2 ^ 64 → 0 < high
-some low high e h = omega arith
-
-wrapped : (a b : ℕ) → a < 2 ^ 64 → b < 2 ^ 64 → 0 < b → (a + b) % 2 ^ 64 ≡ 0 → a + b ≡ 2 ^ 64
-wrapped a b f g h e = omega arith
-
-module _ (low high : ℕ) where
-  pub opposite-whole : (r : ℕ) → r < 2 ^ 64 → high < 2 ^ 64 → low ≡ 0 → (r + high) % 2 ^ 64 ≡ 0 → 0 < low + high * 2 ^ 64 → 0 + r * 2 ^ 64 + (low + high * 2 ^ 64) ≡ 2 ^ 128
-  opposite-whole r f g e k h =
-      let s : r + high ≡ 2 ^ 64 = wrapped r high f g (some low high e h) k in
-      apart 0 r low high ∙ ap₂ (λ (x y : ℕ). 0 + x + y * 2 ^ 64) e s
-
-  pub opposite_parts : low < 2 ^ 64 → high < 2 ^ 64 → 18446744073709551615 - low + 1 + (18446744073709551615 - high) * 2 ^ 64 + (low + high * 2 ^ 64) ≡ 2 ^ 128
-  opposite_parts f g =
-      let a : 18446744073709551615 - low + 1 + low ≡ 2 ^ 64 = omega arith in
-      let b : 18446744073709551615 - high + high ≡ 18446744073709551615 = omega arith in
-      apart (18446744073709551615 - low + 1) (18446744073709551615 - high) low high ∙ ap₂ (λ (x y : ℕ). x + y * 2 ^ 64) a b
-
-  pub less-low : 0 < low → low - 1 + high * 2 ^ 64 ≡ low + high * 2 ^ 64 - 1
-  less-low h = omega arith
-
-  pub less-high : low ≤ 0 → 0 < high → 18446744073709551615 + (high - 1) * 2 ^ 64 ≡ low + high * 2 ^ 64 - 1
-  less-high h k = omega arith
-
-  pub less_none : low ≤ 0 → high ≤ 0 → low + high * 2 ^ 64 ≡ low + high * 2 ^ 64 - 1
-  less_none h k = omega arith
-
-  pub half-fits : low < 2 ^ 64 → low / 2 + high % 2 * 9223372036854775808 < 2 ^ 64
-  half-fits h = omega arith
-
 -- a pair of words fits
-pub fit_self : (p : Pair) → p.low < 2 ^ 64 → p.high < 2 ^ 64 → Fit p ≡ grown (value p)
-fit_self p l h = ap Fit (pair-value p (value p) l refl) ∙ sym (grown-fit (value p) (value-fits p.low p.high l h))
+pub fit_self : (p : Pair) → p.low < 2 ^ 64 → p.high < 2 ^ 64 → Some p ≡ grown (value p)
+fit_self p l h = ap Some (pair-value p (value p) l refl) ∙ sym (grown-fit (value p) (value-fits p.low p.high l h))
 
--- what a carry tells
-carries : (n q : ℕ) → q ≡ n / 2 ^ 64 → 0 < q → 2 ^ 64 ≤ n
-carries n q e h = omega arith
+-- a number by its low word, the word over it, and what stands above both
+module _ (n low high above : ℕ) (word : low < 2 ^ 64) (is : n ≡ low + (high + above * 2 ^ 64) * 2 ^ 64) where
+  pub words-past : 0 < above → None ≡ grown n
+  words-past h = sym (grown-over n (too_large n low (high + above * 2 ^ 64) word is (omega arith)))
 
-carries-none : (n q : ℕ) → q ≡ n / 2 ^ 64 → q ≤ 0 → n < 2 ^ 64
-carries-none n q e h = omega arith
+  pub words-fit : above ≡ 0 → high < 2 ^ 64 → Some (record { low = low; high = high }) ≡ grown n
+  words-fit h fits =
+      let e : n ≡ low + high * 2 ^ 64 = omega arith in
+      ap Some (pair_is n low high word e) ∙ sym (grown-fit n (fitting n low high word e fits))
 
--- the words of a sum: the low ones wrapped, the high ones with the low ones' carry
-module _ (l h m k over : ℕ) (carried : over ≡ (l + m) / 2 ^ 64) where
-  abbrev whole : ℕ
-  whole = l + h * 2 ^ 64 + (m + k * 2 ^ 64)
+-- a sum, whose low words carry into the high ones
+pub sum-words : (l h m k low high carry over : ℕ) → low + carry * 2 ^ 64 ≡ l + m + 0 → high + over * 2 ^ 64 ≡ h + k + carry
+    → l + h * 2 ^ 64 + (m + k * 2 ^ 64) ≡ low + (high + over * 2 ^ 64) * 2 ^ 64
+sum-words l h m k low high carry over e f = omega arith
 
-  words : whole ≡ (l + m) % 2 ^ 64 + (h + k + over) * 2 ^ 64
-  words = omega arith
+-- the four products of the words of two numbers
+products : (a b c d p : ℕ) → (a + b * p) * (c + d * p) ≡ a * c + (b * c + a * d) * p + b * d * (p * p)
+products a b c d p = grind arith
 
-  small : (l + m) % 2 ^ 64 < 2 ^ 64
-  small = omega arith
+pub left-none : (b d : ℕ) → b ≤ 0 → b * d ≡ 0
+left-none b d h = let e : b ≡ 0 = omega arith in ap (λ (x : ℕ). x * d) e ∙ zero-mul d
 
-  past : 2 ^ 64 ≤ h + k + over → Over ≡ grown whole
-  past g = sym (grown-over whole (too_large whole ((l + m) % 2 ^ 64) (h + k + over) small words g))
+pub right-none : (b d : ℕ) → d ≤ 0 → b * d ≡ 0
+right-none b d h = let e : d ≡ 0 = omega arith in ap (λ (x : ℕ). b * x) e ∙ mul-zero b
 
-  pub sum_past : (first : ℕ) → first ≡ (h + k) / 2 ^ 64 → 0 < first → Over ≡ grown whole
-  sum_past first e g = past (le_trans (carries (h + k) first e g) (le-add_right (h + k) over))
+-- a product one of whose high words is 0: the low product carries into the one of the two others that is not 0
+pub product-words : (a b c d low middle high carry over above : ℕ) → b * d ≡ 0 → low + carry * 2 ^ 64 ≡ a * c + 0 → middle + over * 2 ^ 64 ≡ b * c + carry → high + above * 2 ^ 64 ≡ a * d + middle
+    → (a + b * 2 ^ 64) * (c + d * 2 ^ 64) ≡ low + (high + (over + above) * 2 ^ 64) * 2 ^ 64
+product-words a b c d low middle high carry over above z e f g =
+    products a b c d (2 ^ 64) ∙ omega arith
 
-  pub sum-carried : (second : ℕ) → second ≡ (h + k + over) / 2 ^ 64 → 0 < second → Over ≡ grown whole
-  sum-carried second e g = past (carries (h + k + over) second e g)
-
-  module _ (second : ℕ) (e : second ≡ (h + k + over) / 2 ^ 64) (g : second ≤ 0) where
-    pub sum-small : h + k + over < 2 ^ 64
-    sum-small = carries-none (h + k + over) second e g
-
-    pub sum-fit : (low : ℕ) → low ≡ (l + m) % 2 ^ 64 → Fit (record { low = low; high = h + k + over }) ≡ grown whole
-    sum-fit low s =
-        ap (λ (x : ℕ). Fit (record { low = x; high = h + k + over })) s
-        ∙ ap Fit (pair_is whole ((l + m) % 2 ^ 64) (h + k + over) small words)
-        ∙ sym (grown-fit whole (fitting whole ((l + m) % 2 ^ 64) (h + k + over) small words sum-small))
-
--- a number taken once, or not
-module _ (n m l h : ℕ) where
-  pub even-adds : l % 2 ≡ 0 → n ≡ n + m * ((l + h * 2 ^ 64) % 2)
-  even-adds e =
-      let z : (l + h * 2 ^ 64) % 2 ≡ 0 = omega arith in
-      let a : n ≡ n + 0 = omega arith in
-      a ∙ ap (λ (x : ℕ). n + x) (sym (ap (λ (x : ℕ). m * x) z ∙ mul-zero m))
-
-  pub odd_adds : (l % 2 ≡ 0 → ⊥) → n + m ≡ n + m * ((l + h * 2 ^ 64) % 2)
-  odd_adds e =
-      let z : (l + h * 2 ^ 64) % 2 ≡ 1 = omega arith in
-      ap (λ (x : ℕ). n + x) (sym (ap (λ (x : ℕ). m * x) z ∙ mul-one m))
+-- of two that are not 0 it is too large
+pub product-past : (a b c d : ℕ) → 0 < b → 0 < d → None ≡ grown ((a + b * 2 ^ 64) * (c + d * 2 ^ 64))
+product-past a b c d h k = sym (grown-over ((a + b * 2 ^ 64) * (c + d * 2 ^ 64)) (mul-le-mul {n₁ = 2 ^ 64} {m₁ = 2 ^ 64} {n₂ = a + b * 2 ^ 64} {m₂ = c + d * 2 ^ 64} (omega arith) (omega arith)))

@@ -10,15 +10,13 @@ ghost use Rattle.overflow.specs.Overflow.{tells, number};
 
 use crate::sign::{leaves, signed_of};
 use crate::size::{product, sum};
-use words::{Grown, Pair};
+use words::Pair;
 
 pub fn bvnego(width: u64, operand: Pair) -> bool
     ensures { result ≡ tells width (neg_ℤ (number width (value operand))) }
 {
     let signed = signed_of(width, operand);
-    let size = signed.size;
-    let turned = !signed.negative;
-    leaves(width, turned, Grown::Fit(size))
+    leaves(width, !signed.negative, Some(signed.size))
 }
 
 // Of unlike signs the sum lies between the two.

@@ -5,8 +5,9 @@ ghost use Rattle.overflow.specs.Overflow.{number};
 ghost use Rattle.overflow.specs.Sign.{signed_by, Leaves};
 
 use crate::size::{opposite, predecessor};
-use words::{Grown, Pair, low_bits};
+use words::{Pair, low_bits};
 
+// Stays: a sign beside a size and no enum of two cases, since sums and products take the signs apart from the sizes.
 #[derive(Clone, Copy)]
 pub struct Signed {
     pub negative: bool,
@@ -17,10 +18,7 @@ pub struct Signed {
 fn sign_bit(width: u64) -> u64
     ensures { result ≡ width - 1 }
 {
-    if width == 0 {
-        return 0;
-    }
-    width - 1
+    width.saturating_sub(1)
 }
 
 // The number that the lowest bits are, the highest of them the sign.
@@ -41,17 +39,15 @@ pub fn signed_of(width: u64, operand: Pair) -> Signed
 }
 
 // The range has one negative number more than it has others above 0.
-pub fn leaves(width: u64, negative: bool, size: Grown) -> bool
+pub fn leaves(width: u64, negative: bool, size: Option<Pair>) -> bool
     ensures { Leaves width negative size result }
 {
     if 128 < width {
         return false;
     }
-    let Grown::Fit(fit) = size else {
+    let Some(size) = size else {
         return true;
     };
-    if negative {
-        return predecessor(fit).reaches(sign_bit(width));
-    }
-    fit.reaches(sign_bit(width))
+    let most = if negative { predecessor(size) } else { size };
+    most.reaches(sign_bit(width))
 }

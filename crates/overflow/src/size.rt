@@ -1,114 +1,50 @@
-// Numbers of 128 bits without signs: their lowest bits, neighbours, sums and products.
-ghost use Rattle.std.specs.Prelude.{◌≡◌, ◌+◌, ◌-◌, ◌*◌, ◌/◌, ◌%◌, ◌^◌, ◌<◌};
+// Numbers of 128 bits without signs: what is left up to 2^128, one less, sums and products.
+ghost use Rattle.std.specs.Prelude.{◌≡◌, ◌+◌, ◌-◌, ◌*◌, ◌^◌, ◌<◌};
 ghost use Rattle.words.specs.Pair.{value, grown};
 
-use words::{Grown, Pair};
-
-const ONES: u64 = 18446744073709551615;
-
-// 2^63: what the lowest bit of the high word is worth in the low word, once both are halved.
-const TOP: u64 = 9223372036854775808;
+use words::Pair;
 
 // What is left up to 2^128, of a number that is not 0.
 pub fn opposite(number: Pair) -> Pair
     ensures { 0 < value number → value result + value number ≡ 2 ^ 128 }
 {
-    let low = number.low;
-    let high = number.high;
-    if low == 0 {
-        return Pair {
-            low: 0,
-            high: std::num::wrapping_sub_u64(0, high),
-        };
-    }
-    Pair {
-        low: ONES - low + 1,
-        high: ONES - high,
-    }
+    let (low, borrow) = 0u64.borrowing_sub(number.low, false);
+    let (high, _) = 0u64.borrowing_sub(number.high, borrow);
+    Pair { low, high }
 }
 
 // One less, and 0 of 0.
 pub fn predecessor(number: Pair) -> Pair
     ensures { value result ≡ value number - 1 }
 {
-    let low = number.low;
-    let high = number.high;
-    if 0 < low {
-        return Pair { low: low - 1, high };
-    }
-    if 0 < high {
-        return Pair {
-            low: ONES,
-            high: high - 1,
-        };
-    }
-    number
+    let (low, borrow) = number.low.borrowing_sub(1, false);
+    let (high, below) = number.high.borrowing_sub(0, borrow);
+    if below { number } else { Pair { low, high } }
 }
 
-fn carry(left: u64, right: u64) -> u64
-    ensures { result ≡ (left + right) / 2 ^ 64 }
-{
-    if ONES - left < right {
-        return 1;
-    }
-    0
-}
-
-pub fn sum(left: Pair, right: Pair) -> Grown
+pub fn sum(left: Pair, right: Pair) -> Option<Pair>
     ensures { result ≡ grown (value left + value right) }
 {
-    let over = carry(left.low, right.low);
-    if 0 < carry(left.high, right.high) {
-        return Grown::Over;
+    let (low, carry) = left.low.carrying_add(right.low, false);
+    let (high, over) = left.high.carrying_add(right.high, carry);
+    if over {
+        return None;
     }
-    let high = left.high + right.high;
-    if 0 < carry(high, over) {
-        return Grown::Over;
-    }
-    Grown::Fit(Pair {
-        low: std::num::wrapping_add_u64(left.low, right.low),
-        high: high + over,
-    })
+    Some(Pair { low, high })
 }
 
-fn halved(number: Pair) -> Pair
-    ensures { value result ≡ value number / 2 }
-{
-    let low = number.low;
-    let high = number.high;
-    Pair {
-        low: low / 2 + high % 2 * TOP,
-        high: high / 2,
-    }
-}
-
-// The second number added to the first, where the third is odd.
-fn added(first: Pair, second: Pair, times: Pair) -> Grown
-    ensures { result ≡ grown (value first + value second * (value times % 2)) }
-{
-    if times.low % 2 == 0 {
-        return Grown::Fit(first);
-    }
-    sum(first, second)
-}
-
-// Bit by bit of the right number, from the lowest: the unit is doubled only where a bit is left above, so what leaves 128 bits is part of the product.
-pub fn product(left: Pair, right: Pair) -> Grown
+// Where no high word is 0 the product is 2^128 or more; else at most one of the cross products is not 0, and the low product carries into it.
+pub fn product(left: Pair, right: Pair) -> Option<Pair>
     ensures { result ≡ grown (value left * value right) }
 {
-    let mut total = Pair::zero();
-    let mut unit = left;
-    let mut rest = right;
-    while rest.reaches(1) {
-        let Grown::Fit(next) = added(total, unit, rest) else {
-            return Grown::Over;
-        };
-        let Grown::Fit(twice) = sum(unit, unit) else {
-            return Grown::Over;
-        };
-        total = next;
-        unit = twice;
-        rest = halved(rest);
+    if 0 < left.high && 0 < right.high {
+        return None;
     }
-    added(total, unit, rest)
+    let (low, carry) = left.low.carrying_mul(right.low, 0);
+    let (middle, over) = left.high.carrying_mul(right.low, carry);
+    let (high, above) = left.low.carrying_mul(right.high, middle);
+    if 0 < over || 0 < above {
+        return None;
+    }
+    Some(Pair { low, high })
 }

@@ -1,19 +1,17 @@
 -- Ends that rise: what they say of each part, and how the check finds them.
 -- Assumes nothing.
+use Rattle.std.proofs.Common.{None, Some}
 use mathlib.Core.Path.{◌≡◌, refl, sym, ap, ◌∙◌}
 use mathlib.Core.Bool.{Bool, true, false, cond, ◌&&◌}
 use mathlib.Core.List.{List, [], ◌∷◌}
 use Prim.Native.Nat.{ℕ, suc, ◌+◌, ◌%◌, ◌≤◌, ◌<◌}
 use native.Mathlib.Numerals.{add-one}
 use native.Mathlib.Omega.{arith}
-use mathlib.Core.Logic.{◌≢◌}
 use lib.Dec.{leb, eqb}
 use lib.ListN.{length, get_or, drop, drop_of_length-le}
 use lib.Seq.{drop-cons}
-use borrow.Author.Tests.{le-leb, lt-leb, eq-eqb, ne_eqb, eqb-true}
-use Rattle.ground.proofs.Tests.{by_order, and-true, and-false}
-use Rattle.parts.specs.declared.ends.Ends.{Ends}
-use Rattle.parts.specs.declared.ends.Ends.TheVariants.{Rise, Fall}
+use borrow.Author.Tests.{le-leb, lt-leb, ne_eqb, eqb-true}
+use Rattle.ground.proofs.Tests.{by_order, and-false}
 use Rattle.parts.specs.Parts.{rise, last_from, risen, pairs_risen}
 
 pub record Rising (start size end : ℕ) (ends : List ℕ) : Type 0 where
@@ -41,9 +39,6 @@ pub record Checking (size : ℕ) (ends : List ℕ) (last at : ℕ) : Type 0 wher
   pub same : rise 0 size ends ≡ rise last size (drop at ends)
   pub end : last_from 0 ends ≡ last_from last (drop at ends)
 
-pub checking_start : (size : ℕ) (ends : List ℕ) → Checking size ends 0 0
-checking_start size ends = record { within = omega arith; same = refl; end = refl }
-
 module _ (size : ℕ) (ends : List ℕ) (last at : ℕ) (so : Checking size ends last at) (less : at < length ends) where
   next : drop at ends ≡ get_or ends at 0 ∷ drop (suc at) ends
   next = drop-cons ends at 0 less
@@ -52,13 +47,13 @@ module _ (size : ℕ) (ends : List ℕ) (last at : ℕ) (so : Checking size ends
   unfolding rise
   same_next = so.same ∙ ap (rise last size) next
 
-  fallen : rise 0 size ends ≡ false → Fall ≡ risen size ends
-  fallen h = sym (ap (λ (b : Bool). cond b (Rise (last_from 0 ends)) Fall) h)
+  fallen : rise 0 size ends ≡ false → None ≡ risen size ends
+  fallen h = sym (ap (λ (b : Bool). cond b (Some (last_from 0 ends)) None) h)
 
-  pub checking_fall : get_or ends at 0 < last → Fall ≡ risen size ends
+  pub checking_fall : get_or ends at 0 < last → None ≡ risen size ends
   checking_fall below = fallen (same_next ∙ (rw (lt-leb last (get_or ends at 0) below) refl))
 
-  pub checking_past : last ≤ get_or ends at 0 → size < get_or ends at 0 → Fall ≡ risen size ends
+  pub checking_past : last ≤ get_or ends at 0 → size < get_or ends at 0 → None ≡ risen size ends
   checking_past up past = fallen (same_next ∙ (rw (le-leb last (get_or ends at 0) up) (rw (lt-leb (get_or ends at 0) size past) refl)))
 
   pub checking_step : last ≤ get_or ends at 0 → get_or ends at 0 ≤ size → Checking size ends (get_or ends at 0) (at + 1)
@@ -68,33 +63,28 @@ module _ (size : ℕ) (ends : List ℕ) (last at : ℕ) (so : Checking size ends
     end = rw (add-one at) (so.end ∙ ap (last_from last) next);
   }
 
-pub checking_end : (size : ℕ) (ends : List ℕ) (last at : ℕ) → Checking size ends last at → length ends ≤ at → Rise last ≡ risen size ends
+pub checking_end : (size : ℕ) (ends : List ℕ) (last at : ℕ) → Checking size ends last at → length ends ≤ at → Some last ≡ risen size ends
 unfolding rise
 checking_end size ends last at so past =
     let none : drop at ends ≡ [] = drop_of_length-le ends {i = at} past in
     sym
-    (ap (λ (b : Bool). cond b (Rise (last_from 0 ends)) Fall) (so.same ∙ ap (rise last size) none)
-    ∙ ap Rise (so.end ∙ ap (last_from last) none))
+    (ap (λ (b : Bool). cond b (Some (last_from 0 ends)) None) (so.same ∙ ap (rise last size) none)
+    ∙ ap Some (so.end ∙ ap (last_from last) none))
 
 -- what an answer tells
-pub risen-rise : (t : Bool) (last n : ℕ) → Rise n ≡ cond t (Rise last) Fall → (t ≡ true) × (n ≡ last)
+pub risen-rise : (t : Bool) (last n : ℕ) → Some n ≡ cond t (Some last) None → (t ≡ true) × (n ≡ last)
 risen-rise true last n e = (refl, cc)
 risen-rise false last n e = let z : ◌≡◌ {A = ℕ} 0 1 = cc in absurd (omega arith)
 
-pub risen_fall : (t : Bool) (last : ℕ) → Fall ≡ cond t (Rise last) Fall → t ≡ false
+pub risen_fall : (t : Bool) (last : ℕ) → None ≡ cond t (Some last) None → t ≡ false
 risen_fall true last e = let z : ◌≡◌ {A = ℕ} 0 1 = cc in absurd (omega arith)
 risen_fall false last e = refl
 
 -- pairs are two ends each
-pub odd_falls : (size : ℕ) (ends : List ℕ) → length ends % 2 ≡ 1 → Fall ≡ pairs_risen size ends
+pub odd_falls : (size : ℕ) (ends : List ℕ) → length ends % 2 ≡ 1 → None ≡ pairs_risen size ends
 odd_falls size ends odd =
     let e : eqb (length ends % 2) 0 ≡ false = ne_eqb (length ends % 2) 0 (λ h. omega (arith, h, odd)) in
-    sym (ap (λ (b : Bool). cond (rise 0 size ends && b) (Rise (last_from 0 ends)) Fall) e ∙ ap (λ (b : Bool). cond b (Rise (last_from 0 ends)) Fall) (and-false (rise 0 size ends)))
-
-pub even-risen : (size : ℕ) (ends : List ℕ) (r : Ends) → length ends % 2 ≢ 1 → r ≡ risen size ends → r ≡ pairs_risen size ends
-even-risen size ends r even e =
-    let z : eqb (length ends % 2) 0 ≡ true = eq-eqb (length ends % 2) 0 (omega (arith, even)) in
-    e ∙ sym (ap (λ (b : Bool). cond (rise 0 size ends && b) (Rise (last_from 0 ends)) Fall) z ∙ ap (λ (b : Bool). cond b (Rise (last_from 0 ends)) Fall) (and-true (rise 0 size ends)))
+    sym (ap (λ (b : Bool). cond (rise 0 size ends && b) (Some (last_from 0 ends)) None) e ∙ ap (λ (b : Bool). cond b (Some (last_from 0 ends)) None) (and-false (rise 0 size ends)))
 
 pub even-of : (ends : List ℕ) → eqb (length ends % 2) 0 ≡ true → length ends % 2 ≡ 0
 even-of ends e = eqb-true (length ends % 2) 0 e

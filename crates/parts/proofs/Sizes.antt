@@ -1,6 +1,6 @@
 -- How long parts and pairs are when they are joined: what the table of ends tells of it.
 -- Assumes nothing.
-use mathlib.Core.Path.{◌≡◌, refl, sym, ap, ◌∙◌, subst}
+use mathlib.Core.Path.{◌≡◌, refl, sym, ap, ◌∙◌}
 use mathlib.Core.Bool.{true}
 use mathlib.Core.List.{List, [], ◌∷◌, ◌++◌}
 use Prim.Native.Nat.{ℕ, zero, suc, ◌+◌, ◌-◌, ◌*◌, ◌/◌, ◌%◌, ◌≤◌}
@@ -107,6 +107,3 @@ gap_small count gap h g =
     at_most n (suc (suc zero)) h g = omega (arith, mul-suc n 1, mul-suc n 0, mul-zero n)
     at_most n (suc (suc (suc zero))) h g = omega (arith, mul-suc n 2, mul-suc n 1, mul-suc n 0, mul-zero n)
     at_most n (suc (suc (suc (suc k)))) h g = absurd (omega arith)
-
-pub gap_none : (last count gap : ℕ) → count ≡ 0 → last ≡ last + (count - 1) * gap
-gap_none last count gap e = subst (λ (k : ℕ). last ≡ last + (k - 1) * gap) (sym e) (omega (arith, zero-mul gap))

@@ -7,7 +7,7 @@ use native.Mathlib.Nat.{le_of_suc-le-suc, not-suc-le-zero}
 use native.Mathlib.Omega.{arith}
 use lib.ListN.{length, get_or, set}
 use Rattle.lent.specs.Put.{Fronts}
-use Rattle.lent.proofs.Copies.{Copying, copying-start, copying-within, copying-step, copying-end}
+use Rattle.lent.proofs.Copies.{Copying, copying-step, copying-end}
 use Rattle.parts.specs.Texts.{spaced}
 
 pub length-spaced : (text : List ℕ) → length (map spaced text) ≡ length text
@@ -19,18 +19,14 @@ spaced-at [] at h = absurd (not-suc-le-zero h)
 spaced-at (b ∷ bs) zero h = refl
 spaced-at (b ∷ bs) (suc at) h = spaced-at bs at (le_of_suc-le-suc h)
 
-pub spacing_start : (text entry : List ℕ) → length text ≤ length entry → Copying (map spaced text) entry entry 0
-spacing_start text entry h = copying-start (map spaced text) entry (omega (arith, length-spaced text))
-
 module _ (text entry out : List ℕ) (at : ℕ) (so : Copying (map spaced text) entry out at) (less : at < length text) where
   less' : at < length (map spaced text)
   less' = omega (arith, length-spaced text)
 
-  pub spacing_within : at < length out
-  spacing_within = copying-within (map spaced text) entry out at so less'
-
   pub spacing_step : (byte : ℕ) → byte ≡ spaced (get_or text at 0) → Copying (map spaced text) entry (set out at byte) (at + 1)
   spacing_step byte e = subst (λ (b : ℕ). Copying (map spaced text) entry (set out at b) (at + 1)) (spaced-at text at less ∙ sym e) (copying-step (map spaced text) entry out at so less')
 
-pub spacing_end : (text entry out : List ℕ) (at : ℕ) → Copying (map spaced text) entry out at → length text ≤ at → Fronts (map spaced text) entry out at
-spacing_end text entry out at so past = copying-end (map spaced text) entry out at so (omega (arith, length-spaced text))
+pub spacing_end : (text entry out : List ℕ) (at : ℕ) → Copying (map spaced text) entry out at → length text ≤ at → Fronts (map spaced text) entry out (length text)
+spacing_end text entry out at so past =
+    let f = copying-end (map spaced text) entry out at so (omega (arith, length-spaced text)) in
+    record { long = sym (length-spaced text); holds = f.holds }

@@ -1,7 +1,5 @@
 -- Document 01, "What is carried over", item 4: a list comes as a lent byte string with a table of ends, pairs as two ends each.
-use Rattle.std.specs.Prelude.{Bool, true, cond, ◌&&◌, List, [], ◌∷◌, ◌++◌, ℕ, ◌-◌, ◌%◌, leb, eqb, length, take, drop}
-use Rattle.parts.specs.declared.ends.Ends.{Ends}
-use Rattle.parts.specs.declared.ends.Ends.TheVariants.{Rise, Fall}
+use Rattle.std.specs.Prelude.{Bool, true, cond, ◌&&◌, List, [], ◌∷◌, ◌++◌, ℕ, ◌-◌, ◌%◌, leb, eqb, length, take, drop, None, Option, Some}
 
 -- each part goes from the end before it to its own; bytes past the last end belong to no part
 unfoldable pub parts_from : ℕ → List ℕ → List ℕ → List (List ℕ)
@@ -39,8 +37,8 @@ trailed separator [] = []
 trailed separator (part ∷ parts) = separator ++ (part ++ trailed separator parts)
 
 -- where the last part ends, unless an end falls or passes the string
-abbrev pub risen : ℕ → List ℕ → Ends
-risen size ends = cond (rise 0 size ends) (Rise (last_from 0 ends)) Fall
+abbrev pub risen : ℕ → List ℕ → Option ℕ
+risen size ends = cond (rise 0 size ends) (Some (last_from 0 ends)) None
 
-abbrev pub pairs_risen : ℕ → List ℕ → Ends
-pairs_risen size ends = cond (rise 0 size ends && eqb (length ends % 2) 0) (Rise (last_from 0 ends)) Fall
+abbrev pub pairs_risen : ℕ → List ℕ → Option ℕ
+pairs_risen size ends = cond (rise 0 size ends && eqb (length ends % 2) 0) (Some (last_from 0 ends)) None

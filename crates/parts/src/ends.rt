@@ -9,44 +9,29 @@ use refusals::INPUT_LIMIT;
 pub fn exceeds(size: usize, others: bool) -> bool
     ensures { result ≡ (ltb input_limit size || others) }
 {
-    if INPUT_LIMIT < size {
-        return true;
-    }
-    others
+    INPUT_LIMIT < size || others
 }
 
-// Where the last part ends, or that an end falls or passes the string.
-#[derive(Clone, Copy)]
-pub enum Ends {
-    Rise(usize),
-    Fall,
-}
-
-pub fn check_ends(size: usize, ends: &[u64]) -> Ends
+pub fn check_ends(size: usize, ends: &[u64]) -> Option<usize>
     ensures { result ≡ risen size ends.now }
 {
     let mut last: usize = 0;
-    let mut at = 0;
-    while at < ends.len() {
-        let end = ends[at] as usize;
-        if end < last {
-            return Ends::Fall;
-        }
-        if size < end {
-            return Ends::Fall;
+    for end in ends {
+        let end = *end as usize;
+        if end < last || size < end {
+            return None;
         }
         last = end;
-        at += 1;
     }
-    Ends::Rise(last)
+    Some(last)
 }
 
 // The same of pairs, two ends each.
-pub fn check_pairs(size: usize, ends: &[u64]) -> Ends
+pub fn check_pairs(size: usize, ends: &[u64]) -> Option<usize>
     ensures { result ≡ pairs_risen size ends.now }
 {
     if ends.len() % 2 == 1 {
-        return Ends::Fall;
+        return None;
     }
     check_ends(size, ends)
 }
@@ -56,10 +41,7 @@ pub fn joined_length(last: usize, count: usize, gap: usize) -> usize
     requires { (last ≤ input_limit) × (count ≤ input_limit) × (gap ≤ 3) }
     ensures { result ≡ last + (count - 1) * gap }
 {
-    if count == 0 {
-        return last;
-    }
-    last + (count - 1) * gap
+    last + count.saturating_sub(1) * gap
 }
 
 // How long pairs are in brackets with a space between two.
@@ -67,9 +49,5 @@ pub fn pairs_length(last: usize, count: usize) -> usize
     requires { (last ≤ input_limit) × (count ≤ input_limit) }
     ensures { result ≡ last + count * 4 - 1 }
 {
-    let most = last + count * 4;
-    if most == 0 {
-        return 0;
-    }
-    most - 1
+    (last + count * 4).saturating_sub(1)
 }

@@ -5,6 +5,6 @@ mod ends;
 mod lists;
 mod spaced;
 
-pub use ends::{Ends, check_ends, check_pairs, exceeds, joined_length, pairs_length};
+pub use ends::{check_ends, check_pairs, exceeds, joined_length, pairs_length};
 pub use lists::{put_joined, put_pairs};
 pub use spaced::put_spaced;

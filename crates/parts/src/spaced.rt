@@ -6,7 +6,7 @@ ghost use Rattle.parts.specs.Texts.{spaced};
 fn space_for_feed(byte: u8) -> u8
     ensures { result ≡ spaced byte }
 {
-    if byte == 10 { 32 } else { byte }
+    if byte == b'\n' { b' ' } else { byte }
 }
 
 // A text with a space for each line feed, at the front of a buffer that has room for it.
@@ -14,25 +14,19 @@ fn copy_spaced(text: &[u8], out: &mut [u8]) -> usize
     requires { length text.now ≤ length out.old }
     ensures { Fronts (map spaced text.now) out.old out.new result }
 {
-    let mut at = 0;
-    while at < text.len() {
-        let byte = space_for_feed(text[at]);
-        out[at] = byte;
-        at += 1;
+    for (at, byte) in text.iter().enumerate() {
+        out[at] = space_for_feed(*byte);
     }
-    at
+    text.len()
 }
 
 // The same at a place, where there is room for it.
+// Stays: lent::put with another copy, but a function for both would take the copy as a closure, with clauses on the rest of the buffer.
 pub fn put_spaced(text: &[u8], out: &mut [u8], at: usize) -> usize
     ensures { Offers out.old out.new at (map spaced text.now) result }
 {
-    if out.len() < at {
+    if out.len() < at || out.len() - at < text.len() {
         return at;
     }
-    if out.len() - at < text.len() {
-        return at;
-    }
-    let count = copy_spaced(text, &mut out[at..]);
-    at + count
+    at + copy_spaced(text, &mut out[at..])
 }

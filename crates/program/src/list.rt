@@ -12,6 +12,7 @@ const INPUT: i32 = 0;
 const OUTPUT: i32 = 1;
 
 // One byte more than an input may have, so that a longer one shows.
+// Stays: arrays of a fixed length with lengths beside them, since a program has fixed memory and no heap.
 fn input_bytes() -> [u8; 65537]
     ensures { 65537 ≡ length result }
 {
@@ -48,9 +49,8 @@ fn read_tables<R: Files>(rt: &R, tables: &mut [u8]) -> usize
 fn list_files<R: Files>(rt: &R, form: Form, tables: &mut [u8], reply: &mut [u8], out: &mut [u8]) {
     let rows = read_tables(rt, tables);
     let bytes = io::read_full(INPUT, reply);
-    let zero = 0;
-    let count = reply::print_reply(form, &tables[zero..rows], &reply[zero..bytes], out);
-    io::write_all(OUTPUT, &out[zero..count]);
+    let count = reply::print_reply(form, &tables[..rows], &reply[..bytes], out);
+    io::write_all(OUTPUT, &out[..count]);
 }
 
 pub fn run<R: Files>(rt: &R, form: Form) {

@@ -1,5 +1,6 @@
 -- The answer from the first pass is the one that the tree asks for, and the second pass leaves what it asks for.
 -- Assumes nothing.
+use Rattle.std.proofs.Common.{Err, Ok, Result}
 use mathlib.Core.Path.{◌≡◌, refl, sym, ap, ◌∙◌, subst}
 use mathlib.Core.List.{List, [], ◌++◌}
 use Prim.Native.Nat.{ℕ, ◌/◌, ◌≤◌, ◌<◌}
@@ -18,38 +19,37 @@ use Rattle.brackets.specs.Count.{start, counted}
 use Rattle.brackets.specs.Walk.{Walk, going, done, fault, walk, Outcome, tree, refused, finish}
 use Rattle.brackets.proofs.Agree.{Agrees, Faulty, agrees, whole}
 use Rattle.tokens.specs.Piece.{Lexed, ok, bad, lex}
-use Rattle.reader.specs.declared.tally.Tally.{Tally}
-use Rattle.reader.specs.declared.read.Reading.{Reading}
-use Rattle.reader.specs.declared.read.Reading.TheVariants.{Read, Refused}
 use Rattle.reader.specs.Tally.{tallied}
 use Rattle.reader.specs.Judge.{fit, by_phase, judged}
 use Rattle.refusals.specs.Limit.{input_limit}
 use Rattle.reader.specs.Read.{outcome, parse, Left, refusing, written, fitted, settled, reading, Leaves}
 use Rattle.reader.specs.Write.{Ready, Wrote}
+use Rattle.reader.specs.declared.read.Reading.{Reading}
+use Rattle.ground.proofs.Options.{ok-same}
 
 -- the room's tests, by their outcomes
-pub room-nodes : (c : Scan) (n x d : ℕ) → n < c.nodes → Refused (NodeRoom c.nodes) ≡ fit c n x d
+pub room-nodes : (c : Scan) (n x d : ℕ) → n < c.nodes → Err (NodeRoom c.nodes) ≡ fit c n x d
 room-nodes c n x d h = rw (lt-ltb n c.nodes h) refl
 
-pub room-text : (c : Scan) (n x d : ℕ) → c.nodes ≤ n → x < c.text → Refused (TextRoom c.text) ≡ fit c n x d
+pub room-text : (c : Scan) (n x d : ℕ) → c.nodes ≤ n → x < c.text → Err (TextRoom c.text) ≡ fit c n x d
 room-text c n x d h g = rw (le-ltb n c.nodes h) (rw (lt-ltb x c.text g) refl)
 
-pub room-depth : (c : Scan) (n x d : ℕ) → c.nodes ≤ n → c.text ≤ x → d < c.most → Refused (DepthRoom c.most) ≡ fit c n x d
+pub room-depth : (c : Scan) (n x d : ℕ) → c.nodes ≤ n → c.text ≤ x → d < c.most → Err (DepthRoom c.most) ≡ fit c n x d
 room-depth c n x d h g k = rw (le-ltb n c.nodes h) (rw (le-ltb x c.text g) (rw (lt-ltb d c.most k) refl))
 
-pub room-all : (c : Scan) (n x d : ℕ) → c.nodes ≤ n → c.text ≤ x → c.most ≤ d → Read c.nodes c.text c.most ≡ fit c n x d
+pub room-all : (c : Scan) (n x d : ℕ) → c.nodes ≤ n → c.text ≤ x → c.most ≤ d → (Ok (record { nodes = c.nodes; text = c.text; depth = c.most })) ≡ fit c n x d
 room-all c n x d h g k = rw (le-ltb n c.nodes h) (rw (le-ltb x c.text g) (rw (le-ltb d c.most k) refl))
 
 -- what the numbers answer for an outcome
-abbrev answer_of : Outcome → ℕ → ℕ → ℕ → Reading
+abbrev answer_of : Outcome → ℕ → ℕ → ℕ → Result Reading Refusal
 answer_of (tree t) n x d = fit (whole t) n x d
-answer_of (refused why) n x d = Refused why
+answer_of (refused why) n x d = Err why
 
-faulty_phase : (c : Scan) (n x d : ℕ) (p : Phase) (why : Refusal) → Faulty p why → by_phase c n x d p ≡ Refused why
+faulty_phase : (c : Scan) (n x d : ℕ) (p : Phase) (why : Refusal) → Faulty p why → by_phase c n x d p ≡ Err why
 faulty_phase c n x d Going why h = absurd h
 faulty_phase c n x d Done why h = absurd h
-faulty_phase c n x d Unclosed why h = ap Refused (sym h)
-faulty_phase c n x d Trailing why h = ap Refused (sym h)
+faulty_phase c n x d Unclosed why h = ap Err (sym h)
+faulty_phase c n x d Trailing why h = ap Err (sym h)
 
 by-walk : (w : Walk) (c : Scan) (n x d : ℕ) → Agrees w c → by_phase c n x d c.phase ≡ answer_of (finish w) n x d
 by-walk (going st) c n x d h = ap (λ (y : Scan). by_phase y n x d y.phase) h
@@ -61,34 +61,34 @@ answer-is (ok ts) n x d = by-walk (walk (going []) ts) (counted start ts) n x d 
 answer-is (bad why) n x d = refl
 
 module _ (N T S : List ℕ) where
-  abbrev answers : Outcome → Reading
+  abbrev answers : Outcome → Result Reading Refusal
   answers o = answer_of o (length N / stride) (length T) (length S)
 
-  fit_refused : (t : Tree) (why : Refusal) → Refused why ≡ answers (tree t) → fitted N T S t ≡ refusing N T S why
+  fit_refused : (t : Tree) (why : Refusal) → Err why ≡ answers (tree t) → fitted N T S t ≡ refusing N T S why
   fit_refused t why e =
       by_order (length N / stride) (nodes t)
       (λ h.
-      let q : Refused why ≡ Refused (NodeRoom (nodes t)) = rw (lt-ltb (length N / stride) (nodes t) h) at e in
+      let q : Err why ≡ Err (NodeRoom (nodes t)) = rw (lt-ltb (length N / stride) (nodes t) h) at e in
       rw (lt-leb (nodes t) (length N / stride) h) (ap (refusing N T S) (cc)))
       (λ h.
       let e₁ = rw (le-ltb (length N / stride) (nodes t) h) at e in
       rw (le-leb (nodes t) (length N / stride) h)
       (by_order (length T) (length (text t))
       (λ g.
-      let q : Refused why ≡ Refused (TextRoom (length (text t))) = rw (lt-ltb (length T) (length (text t)) g) at e₁ in
+      let q : Err why ≡ Err (TextRoom (length (text t))) = rw (lt-ltb (length T) (length (text t)) g) at e₁ in
       rw (lt-leb (length (text t)) (length T) g) (ap (refusing N T S) (cc)))
       (λ g.
       let e₂ = rw (le-ltb (length T) (length (text t)) g) at e₁ in
       rw (le-leb (length (text t)) (length T) g)
       (by_order (length S) (depth t)
       (λ k.
-      let q : Refused why ≡ Refused (DepthRoom (depth t)) = rw (lt-ltb (length S) (depth t) k) at e₂ in
+      let q : Err why ≡ Err (DepthRoom (depth t)) = rw (lt-ltb (length S) (depth t) k) at e₂ in
       rw (lt-leb (depth t) (length S) k) (ap (refusing N T S) (cc)))
       (λ k.
-      let q : Refused why ≡ Read (nodes t) (length (text t)) (depth t) = rw (le-ltb (length S) (depth t) k) at e₂ in
+      let q : Err why ≡ (Ok (record { nodes = nodes t; text = length (text t); depth = depth t })) = rw (le-ltb (length S) (depth t) k) at e₂ in
       let z : ◌≡◌ {A = ℕ} 0 1 = cc in absurd (omega arith))))))
 
-  settled-refused : (o : Outcome) (why : Refusal) → Refused why ≡ answers o → settled N T S o ≡ refusing N T S why
+  settled-refused : (o : Outcome) (why : Refusal) → Err why ≡ answers o → settled N T S o ≡ refusing N T S why
   settled-refused (tree t) why e = fit_refused t why e
   settled-refused (refused w) why e = ap (refusing N T S) (cc)
 
@@ -103,29 +103,39 @@ module _ (N T S : List ℕ) where
     pub room_t : length (text t) ≤ length T
     pub room_s : depth t ≤ length S
 
-  fit-read : (t : Tree) (k j m : ℕ) → Read k j m ≡ answers (tree t) → Fits (tree t) k j m
+  fit-read : (t : Tree) (k j m : ℕ) → (Ok (record { nodes = k; text = j; depth = m })) ≡ answers (tree t) → Fits (tree t) k j m
   fit-read t k j m e =
       by_order (length N / stride) (nodes t)
       (λ h.
-      let q : Read k j m ≡ Refused (NodeRoom (nodes t)) = rw (lt-ltb (length N / stride) (nodes t) h) at e in
+      let q : (Ok (record { nodes = k; text = j; depth = m })) ≡ Err (NodeRoom (nodes t)) = rw (lt-ltb (length N / stride) (nodes t) h) at e in
       let z : ◌≡◌ {A = ℕ} 0 1 = cc in absurd (omega arith))
       (λ h.
       let e₁ = rw (le-ltb (length N / stride) (nodes t) h) at e in
       by_order (length T) (length (text t))
       (λ g.
-      let q : Read k j m ≡ Refused (TextRoom (length (text t))) = rw (lt-ltb (length T) (length (text t)) g) at e₁ in
+      let q : (Ok (record { nodes = k; text = j; depth = m })) ≡ Err (TextRoom (length (text t))) = rw (lt-ltb (length T) (length (text t)) g) at e₁ in
       let z : ◌≡◌ {A = ℕ} 0 1 = cc in absurd (omega arith))
       (λ g.
       let e₂ = rw (le-ltb (length T) (length (text t)) g) at e₁ in
       by_order (length S) (depth t)
       (λ i.
-      let q : Read k j m ≡ Refused (DepthRoom (depth t)) = rw (lt-ltb (length S) (depth t) i) at e₂ in
+      let q : (Ok (record { nodes = k; text = j; depth = m })) ≡ Err (DepthRoom (depth t)) = rw (lt-ltb (length S) (depth t) i) at e₂ in
       let z : ◌≡◌ {A = ℕ} 0 1 = cc in absurd (omega arith))
       (λ i.
-      let q : Read k j m ≡ Read (nodes t) (length (text t)) (depth t) = rw (le-ltb (length S) (depth t) i) at e₂ in
-      record { t = t; is = refl; size_n = cc; size_t = cc; size_s = cc; room_n = h; room_t = g; room_s = i })))
+      let q : (Ok (record { nodes = k; text = j; depth = m })) ≡ (Ok (record { nodes = nodes t; text = length (text t); depth = depth t })) = rw (le-ltb (length S) (depth t) i) at e₂ in
+      let f = ok-same q in
+      record {
+        t = t;
+        is = refl;
+        size_n = ap (λ (r : Reading). r.nodes) f;
+        size_t = ap (λ (r : Reading). r.text) f;
+        size_s = ap (λ (r : Reading). r.depth) f;
+        room_n = h;
+        room_t = g;
+        room_s = i;
+      })))
 
-  settled-read : (o : Outcome) (k j m : ℕ) → Read k j m ≡ answers o → Fits o k j m
+  settled-read : (o : Outcome) (k j m : ℕ) → (Ok (record { nodes = k; text = j; depth = m })) ≡ answers o → Fits o k j m
   settled-read (tree t) k j m e = fit-read t k j m e
   settled-read (refused w) k j m e = let z : ◌≡◌ {A = ℕ} 0 1 = cc in absurd (omega arith)
 
@@ -144,21 +154,21 @@ module _ (s N T S : List ℕ) where
   leaves : (l : Left) → reading N T S s ≡ l → Leaves (reading N T S s) l.answer l.nodes l.text l.stack
   leaves l e = subst (λ (x : Left). Leaves x l.answer l.nodes l.text l.stack) (sym e) (record { answers = refl; nodes = refl; text = refl; stack = refl })
 
-  pub too_long : input_limit < length s → Leaves (reading N T S s) (Refused InputTooLong) N T S
+  pub too_long : input_limit < length s → Leaves (reading N T S s) (Err InputTooLong) N T S
   unfolding reading
   too_long h = leaves (refusing N T S InputTooLong) (rw (lt-leb (length s) input_limit h) refl)
 
-  module _ (short : length s ≤ input_limit) (r : Tally) (tally : r ≡ tallied start (lex s)) (a : Reading) (judge : a ≡ judged r (length N / stride) (length T) (length S)) where
+  module _ (short : length s ≤ input_limit) (r : Result Scan Refusal) (tally : r ≡ tallied start (lex s)) (a : Result Reading Refusal) (judge : a ≡ judged r (length N / stride) (length T) (length S)) where
     answered : a ≡ answers N T S (parse s)
     unfolding parse
-    answered = judge ∙ ap (λ (x : Tally). judged x (length N / stride) (length T) (length S)) tally ∙ answer-is (lex s) (length N / stride) (length T) (length S)
+    answered = judge ∙ ap (λ (x : Result Scan Refusal). judged x (length N / stride) (length T) (length S)) tally ∙ answer-is (lex s) (length N / stride) (length T) (length S)
 
-    pub left-refused : (why : Refusal) → a ≡ Refused why → Leaves (reading N T S s) a N T S
+    pub left-refused : (why : Refusal) → a ≡ Err why → Leaves (reading N T S s) a N T S
     left-refused why q =
-        subst (λ (x : Reading). Leaves (reading N T S s) x N T S) (sym q)
+        subst (λ (x : Result Reading Refusal). Leaves (reading N T S s) x N T S) (sym q)
         (leaves (refusing N T S why) (reading-is s N T S short ∙ settled-refused N T S (parse s) why (sym q ∙ answered)))
 
-    module _ (k j m : ℕ) (q : a ≡ Read k j m) where
+    module _ (k j m : ℕ) (q : a ≡ Ok (record { nodes = k; text = j; depth = m })) where
       fits : Fits N T S (parse s) k j m
       fits = settled-read N T S (parse s) k j m (sym q ∙ answered)
 
@@ -172,13 +182,13 @@ module _ (s N T S : List ℕ) where
         same-tree : fits.t ≡ w.found
         same-tree = let e : tree fits.t ≡ tree w.found = sym fits.is ∙ w.parsed in cc
 
-        pub left-written : (S'' : List ℕ) → S'' ≡ replicate m 0 ++ drop m S' → Leaves (reading N T S s) (Read k j m) N' T' S''
+        pub left-written : (S'' : List ℕ) → S'' ≡ replicate m 0 ++ drop m S' → Leaves (reading N T S s) (Ok (record { nodes = k; text = j; depth = m })) N' T' S''
         left-written S'' z =
             let l : reading N T S s ≡ written N T S w.found = reading-is s N T S short ∙ ap (settled N T S) fits.is ∙ fitted-is N T S fits.t fits.room_n fits.room_t fits.room_s ∙ ap (written N T S) same-tree in
             let k₁ : k ≡ nodes w.found = fits.size_n ∙ ap nodes same-tree in
             let j₁ : j ≡ length (text w.found) = fits.size_t ∙ ap (λ (t : Tree). length (text t)) same-tree in
             let m₁ : m ≡ depth w.found = fits.size_s ∙ ap depth same-tree in
-            subst (λ (x : Left). Leaves x (Read k j m) N' T' S'') (sym l)
+            subst (λ (x : Left). Leaves x (Ok (record { nodes = k; text = j; depth = m })) N' T' S'') (sym l)
             (record {
               answers = rw k₁ (rw j₁ (rw m₁ refl));
               nodes = w.wrote_n;

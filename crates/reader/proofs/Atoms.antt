@@ -1,5 +1,6 @@
 -- One atom of the second pass: its node, and its text in the text's unwritten tail.
 -- Assumes nothing.
+use Rattle.std.proofs.Common.{Err, Ok, Result}
 use mathlib.Core.Path.{◌≡◌, refl, sym, ap, ◌∙◌, subst}
 use mathlib.Core.Bool.{Bool, true, false, cond, ◌&&◌}
 use mathlib.Core.List.{List}
@@ -15,8 +16,6 @@ use Rattle.lent.proofs.Copies.{tail-front}
 use Rattle.words.specs.declared.pair.Pair.{Pair}
 use Rattle.words.specs.declared.digits.Radix.{Radix}
 use Rattle.words.specs.declared.digits.Radix.TheVariants.{Binary, Decimal, Hexadecimal}
-use Rattle.words.specs.declared.digits.Parsed.{Parsed}
-use Rattle.words.specs.declared.digits.Parsed.TheVariants.{Number, Refused}
 use Rattle.words.specs.Pair.{value, pair_of}
 use Rattle.words.specs.Radix.{base_of}
 use Rattle.words.specs.Run.{parsed, number, digits, some_byte}
@@ -33,37 +32,37 @@ use Rattle.tokens.specs.Piece.{Piece, token, wrong, from_parsed, bits_of, piece_
 use Rattle.reader.specs.Write.{FineNode, Noded, FineAtom, FineNumber, Fine, Numbered, Texted}
 
 -- a number that a run of digits gave is the pair of its value
-pair_in : Parsed → Pair
-pair_in (Number x) = x
-pair_in (Refused why) = pair_of 0
+pair_in : Result Pair Refusal → Pair
+pair_in (Ok x) = x
+pair_in (Err why) = pair_of 0
 
 pair_same : (x : Pair) (n : ℕ) → x ≡ pair_of n → x ≡ pair_of (value x)
 pair_same x n q = q ∙ ap pair_of (sym (ap value q ∙ value-pair n))
 
-number_when : (t : Bool) (n : ℕ) (why : Refusal) (x : Pair) → cond t (Number (pair_of n)) (Refused why) ≡ Number x → x ≡ pair_of (value x)
+number_when : (t : Bool) (n : ℕ) (why : Refusal) (x : Pair) → cond t (Ok (pair_of n)) (Err why) ≡ Ok x → x ≡ pair_of (value x)
 unfolding pair_in
 number_when true n why x q = pair_same x n (sym (ap pair_in q))
 number_when false n why x q = pair_same x 0 (sym (ap pair_in q))
 
-number-pair : (r : Radix) (s : List ℕ) (x : Pair) → parsed r s ≡ Number x → x ≡ pair_of (value x)
+number-pair : (r : Radix) (s : List ℕ) (x : Pair) → parsed r s ≡ Ok x → x ≡ pair_of (value x)
 unfolding parsed
 number-pair r s x q = number_when (some_byte s && digits r s && ltb (number (base_of r) s) (2 ^ 128)) (number (base_of r) s) _ x q
 
 -- a number's piece
-module _ (c : Scan) (p : Parsed) (make : ℕ → Atom) (N S : List ℕ) (fine : FineNumber c (from_parsed p make) N S) where
-  pub no-fault : (why : Refusal) → p ≡ Refused why → ⊥
-  no-fault why q = subst (λ (x : Parsed). FineNumber c (from_parsed x make) N S) q fine
+module _ (c : Scan) (p : Result Pair Refusal) (make : ℕ → Atom) (N S : List ℕ) (fine : FineNumber c (from_parsed p make) N S) where
+  pub no-fault : (why : Refusal) → p ≡ Err why → ⊥
+  no-fault why q = subst (λ (x : Result Pair Refusal). FineNumber c (from_parsed x make) N S) q fine
 
-  module _ (x : Pair) (q : p ≡ Number x) (ws : List ℕ) (is : ws ≡ atom_words (make (value x)) c.text) (bare : length (atom_text (make (value x))) ≡ 0) where
+  module _ (x : Pair) (q : p ≡ Ok x) (ws : List ℕ) (is : ws ≡ atom_words (make (value x)) c.text) (bare : length (atom_text (make (value x))) ≡ 0) where
     pub number-fine : FineNode c ws 0 N S
-    number-fine = rw is (rw (← bare) (subst (λ (x : Parsed). FineNumber c (from_parsed x make) N S) q fine))
+    number-fine = rw is (rw (← bare) (subst (λ (x : Result Pair Refusal). FineNumber c (from_parsed x make) N S) q fine))
 
     pub number-left : (N' : List ℕ) (r : Scan) → Noded c ws 0 N N' S r → Numbered c (from_parsed p make) N N' S r
     number-left N' r h =
-        subst (λ (y : Parsed). Numbered c (from_parsed y make) N N' S r) (sym q)
+        subst (λ (y : Result Pair Refusal). Numbered c (from_parsed y make) N N' S r) (sym q)
         (let g = rw is at h in record { nodes = g.nodes; next = rw bare g.next })
 
-pub numeral-words : (s : List ℕ) (r : Radix) (x : Pair) → parsed r s ≡ Number x → node_words 2 0 x.low x.high ≡ numeral_words (value x)
+pub numeral-words : (s : List ℕ) (r : Radix) (x : Pair) → parsed r s ≡ Ok x → node_words 2 0 x.low x.high ≡ numeral_words (value x)
 numeral-words s r x q = ap (λ (y : Pair). node_words 2 0 y.low y.high) (number-pair r s x q)
 
 pub bits-words : (width w n : ℕ) (full : Pair) → w ≡ width → full ≡ pair_of (extended w n) → node_words 1 w full.low full.high ≡ bit_vec_words width (extended width n)

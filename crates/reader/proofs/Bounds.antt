@@ -1,5 +1,6 @@
 -- How large an accepted tree can be: at most a node a byte, at most two bytes of text a byte.
 -- Assumes nothing.
+use Rattle.std.proofs.Common.{Err, Ok, Result}
 use mathlib.Core.Path.{◌≡◌, refl, sym, ap, ◌∙◌, subst}
 use mathlib.Core.List.{List, []}
 use Prim.Native.Nat.{ℕ, zero, suc, ◌+◌, ◌*◌, ◌≤◌, ◌<◌}
@@ -15,16 +16,15 @@ use Rattle.brackets.proofs.Agree.{Agrees, agrees, whole}
 use Rattle.tokens.specs.Lexeme.{lexeme_at}
 use Rattle.tokens.specs.Piece.{lex}
 use Rattle.tokens.proofs.Lexes.{found_some}
-use Rattle.reader.specs.declared.tally.Tally.{Tally}
-use Rattle.reader.specs.declared.tally.Tally.TheVariants.{Scanned, Fault}
 use Rattle.reader.specs.Tally.{turned, tallied}
 use Rattle.reader.specs.Read.{parse}
 use Rattle.reader.proofs.Sofar.{Sofar, sofar-start, sofar-step, sofar-fault, sofar-end, piece}
 use Rattle.reader.proofs.Holds.{found, parse-is}
+use Rattle.refusals.specs.declared.Refusal.{Refusal}
 
-abbrev Small : List ℕ → Tally → Type 0
-Small s (Scanned d) = (d.nodes ≤ length s) × (d.text ≤ 2 * length s)
-Small s (Fault why) = Unit {0}
+abbrev Small : List ℕ → Result Scan Refusal → Type 0
+Small s (Ok d) = (d.nodes ≤ length s) × (d.text ≤ 2 * length s)
+Small s (Err why) = Unit {0}
 
 small-here : (s : List ℕ) (at : ℕ) (c : Scan) → Sofar s at c → length s ≤ at → Small s (tallied start (lex s))
 small-here s at c h past =
@@ -33,10 +33,10 @@ small-here s at c h past =
 -- one lexeme more, where the rest is known to be small
 small-turn : (s : List ℕ) (at : ℕ) (c : Scan) (h : Sofar s at c) (bytes : Bytes s) (less : at < length s)
     → ((d : Scan) → Sofar s (at + (lexeme_at (drop at s)).width) d → Small s (tallied start (lex s)))
-    → (r : Tally) → r ≡ turned c (piece s at c (lexeme_at (drop at s)) h bytes less refl) → Small s (tallied start (lex s))
-small-turn s at c h bytes less go (Scanned d) q = go d (sofar-step s at c (lexeme_at (drop at s)) h bytes less refl d q)
-small-turn s at c h bytes less go (Fault why) q =
-    subst (Small s) (sofar-fault s at c (lexeme_at (drop at s)) h bytes less refl (Fault why) why refl q) tt
+    → (r : Result Scan Refusal) → r ≡ turned c (piece s at c (lexeme_at (drop at s)) h bytes less refl) → Small s (tallied start (lex s))
+small-turn s at c h bytes less go (Ok d) q = go d (sofar-step s at c (lexeme_at (drop at s)) h bytes less refl d q)
+small-turn s at c h bytes less go (Err why) q =
+    subst (Small s) (sofar-fault s at c (lexeme_at (drop at s)) h bytes less refl (Err why) why refl q) tt
 
 small-from : (fuel : ℕ) (s : List ℕ) (at : ℕ) (c : Scan) → Bytes s → length s ≤ at + fuel → Sofar s at c → Small s (tallied start (lex s))
 small-from zero s at c bytes b h = small-here s at c h (omega arith)
@@ -62,5 +62,5 @@ pub accepted-small : (s : List ℕ) (t : Tree) → Bytes s → parse s ≡ tree 
 accepted-small s t bytes e =
     let f = found (lex s) t (sym (parse-is s) ∙ e) in
     let c : counted start f.ts ≡ whole t = whole_of (walk (going []) f.ts) (counted start f.ts) t (agrees f.ts) f.walked in
-    let m : Small s (Scanned (whole t)) = subst (Small s) (ap (tallied start) f.lexed ∙ ap Scanned c) (small s bytes) in
+    let m : Small s (Ok (whole t)) = subst (Small s) (ap (tallied start) f.lexed ∙ ap Ok c) (small s bytes) in
     record { few = m.0; short = m.1 }

@@ -1,5 +1,6 @@
 -- A fault of the lexer or of brackets is never a starred number: with rooms that suffice and a length that is allowed, equality with the Rust is claimed.
 -- Assumes nothing.
+use Rattle.std.proofs.Common.{Err, Ok, Result}
 use mathlib.Core.Path.{◌≡◌, refl, subst}
 use mathlib.Core.Bool.{false, ◌&&◌}
 use mathlib.Core.List.{List, [], ◌∷◌}
@@ -12,8 +13,6 @@ use Rattle.refusals.specs.declared.Refusal.TheVariants.{UnexpectedEnd}
 use Rattle.refusals.specs.Number.{starred}
 use Rattle.words.specs.declared.digits.Radix.{Radix}
 use Rattle.words.specs.declared.digits.Radix.TheVariants.{Decimal}
-use Rattle.words.specs.declared.digits.Parsed.{Parsed}
-use Rattle.words.specs.declared.digits.Parsed.TheVariants.{Number, Refused}
 use Rattle.words.specs.Radix.{base_of}
 use Rattle.words.specs.Run.{number, digits, some_byte, parsed}
 use Rattle.utf8.specs.Octets.{utf8}
@@ -27,6 +26,7 @@ use Rattle.tokens.specs.declared.lexeme.Kind.TheVariants as K
 use Rattle.tokens.specs.Lexeme.{lexeme_at}
 use Rattle.tokens.specs.Piece.{Piece, space, token, wrong, from_parsed, piece_of, piece_at, Lexed, ok, bad, more, emit, lex_after, lex}
 use Rattle.reader.specs.Read.{outcome, parse}
+use Rattle.words.specs.declared.pair.Pair.{Pair}
 
 abbrev Unstarred : Refusal → Type 0
 Unstarred why = starred why ≡ false
@@ -36,17 +36,17 @@ UnstarredPiece space = Unit {0}
 UnstarredPiece (token x) = Unit {0}
 UnstarredPiece (wrong why) = Unstarred why
 
-abbrev UnstarredParsed : Parsed → Type 0
-UnstarredParsed (Number p) = Unit {0}
-UnstarredParsed (Refused why) = Unstarred why
+abbrev UnstarredParsed : Result Pair Refusal → Type 0
+UnstarredParsed (Ok p) = Unit {0}
+UnstarredParsed (Err why) = Unstarred why
 
 parsed_unstarred : (r : Radix) (x : List ℕ) → UnstarredParsed (parsed r x)
 unfolding parsed
 parsed_unstarred r x = by_cond UnstarredParsed (some_byte x && digits r x && ltb (number (base_of r) x) (2 ^ 128)) _ _ (λ _. tt) (λ _. refl)
 
-from_unstarred : (p : Parsed) (make : ℕ → Atom) → UnstarredParsed p → UnstarredPiece (from_parsed p make)
-from_unstarred (Number p) make h = tt
-from_unstarred (Refused why) make h = h
+from_unstarred : (p : Result Pair Refusal) (make : ℕ → Atom) → UnstarredParsed p → UnstarredPiece (from_parsed p make)
+from_unstarred (Ok p) make h = tt
+from_unstarred (Err why) make h = h
 
 piece_unstarred : (k : Kind) (x : List ℕ) → UnstarredPiece (piece_of k x)
 piece_unstarred K.Blank x = tt

@@ -1,12 +1,13 @@
 -- The second pass up to a place: the walk so far, laid in the lent buffers, and the tree that it will be.
 -- Assumes nothing.
+use Rattle.std.proofs.Common.{Ok}
 use mathlib.Core.Path.{◌≡◌, refl, sym, ap, ◌∙◌, subst}
 use mathlib.Core.List.{List, [], ◌∷◌}
 use Prim.Native.Nat.{ℕ, ◌+◌, ◌*◌, ◌-◌, ◌^◌, ◌≤◌, ◌<◌}
 use native.Mathlib.Omega.{arith}
 use lib.ListN.{length, take, drop, drop_of_length-le, take-append-drop, length-take}
 use Rattle.strings.proofs.Texts.{Bytes}
-use Rattle.arena.specs.Tree.{Tree, nodes, text, depth}
+use Rattle.arena.specs.Tree.{Tree, nodes, text}
 use Rattle.arena.specs.Layout.{stride, words}
 use Rattle.brackets.specs.declared.scan.Scan.{Scan}
 use Rattle.brackets.specs.Token.{Token, opens, closes, atom, atom_text, atom_words}
@@ -21,7 +22,6 @@ use Rattle.tokens.specs.Lexeme.{blank_span, lexeme_at}
 use Rattle.tokens.specs.Piece.{Piece, space, token, wrong, piece_of, Lexed, ok, bad, emit, lex}
 use Rattle.tokens.proofs.Lexes.{lex-nil, found-piece, lex-at, found_within, found-there}
 use Rattle.tokens.proofs.Pasts.{past_same}
-use Rattle.reader.specs.declared.tally.Tally.TheVariants.{Scanned}
 use Rattle.reader.specs.Tally.{turned, Ample}
 use Rattle.refusals.specs.Limit.{input_limit}
 use Rattle.reader.specs.Read.{outcome, parse}
@@ -44,7 +44,7 @@ agree-next w c space h = h
 agree-next w c (token x) h = agree-step w c x h
 agree-next w c (wrong why) h = h
 
-turned_right : (c : Scan) (p : Piece) → Right p → Scanned (piece_c c p) ≡ turned c p
+turned_right : (c : Scan) (p : Piece) → Right p → Ok (piece_c c p) ≡ turned c p
 turned_right c space h = refl
 turned_right c (token x) h = refl
 turned_right c (wrong why) h = absurd h

@@ -1,5 +1,6 @@
 -- One piece of the second pass, by its kind.
 -- Assumes nothing.
+use Rattle.std.proofs.Common.{Err, Ok, Result}
 use mathlib.Core.Path.{◌≡◌, refl, sym, ap, subst}
 use mathlib.Core.Bool.{Bool, true, false, cond}
 use mathlib.Core.List.{List, []}
@@ -9,8 +10,6 @@ use lib.Seq.{sets}
 use Rattle.refusals.specs.declared.Refusal.{Refusal}
 use Rattle.words.specs.declared.digits.Radix.{Radix}
 use Rattle.words.specs.declared.digits.Radix.TheVariants.{Decimal}
-use Rattle.words.specs.declared.digits.Parsed.{Parsed}
-use Rattle.words.specs.declared.digits.Parsed.TheVariants.{Number, Refused}
 use Rattle.words.specs.Run.{parsed}
 use Rattle.words.specs.Extension.{extended}
 use Rattle.utf8.specs.Octets.{utf8}
@@ -22,15 +21,16 @@ use Rattle.tokens.specs.declared.lexeme.Kind.{Kind}
 use Rattle.tokens.specs.declared.lexeme.Kind.TheVariants as K
 use Rattle.tokens.specs.Piece.{token, wrong, from_parsed, bits_of, piece_of}
 use Rattle.reader.specs.Write.{FineNumber, Fine, piece_s, Numbered, Texted, OpenedBy, ClosedBy, Pieced}
+use Rattle.words.specs.declared.pair.Pair.{Pair}
 
-number-needs : (c : Scan) (p : Parsed) (make : ℕ → Atom) (N T S : List ℕ) → Fine c (from_parsed p make) N T S → FineNumber c (from_parsed p make) N S
-number-needs c (Number x) make N T S h = h.node
-number-needs c (Refused why) make N T S h = h
+number-needs : (c : Scan) (p : Result Pair Refusal) (make : ℕ → Atom) (N T S : List ℕ) → Fine c (from_parsed p make) N T S → FineNumber c (from_parsed p make) N S
+number-needs c (Ok x) make N T S h = h.node
+number-needs c (Err why) make N T S h = h
 
-number-gives : (c : Scan) (p : Parsed) (make : ℕ → Atom) (N N' T S : List ℕ) (r : Scan) → ((n : ℕ) → atom_text (make n) ≡ [])
+number-gives : (c : Scan) (p : Result Pair Refusal) (make : ℕ → Atom) (N N' T S : List ℕ) (r : Scan) → ((n : ℕ) → atom_text (make n) ≡ [])
     → Numbered c (from_parsed p make) N N' S r → Pieced c (from_parsed p make) N N' T T S S r
-number-gives c (Number x) make N N' T S r bare h = record { nodes = h.nodes; text = sym (ap (sets T c.text) (bare _)); stack = refl; next = h.next }
-number-gives c (Refused why) make N N' T S r bare h = record { nodes = h.nodes; text = refl; stack = refl; next = h.next }
+number-gives c (Ok x) make N N' T S r bare h = record { nodes = h.nodes; text = sym (ap (sets T c.text) (bare _)); stack = refl; next = h.next }
+number-gives c (Err why) make N N' T S r bare h = record { nodes = h.nodes; text = refl; stack = refl; next = h.next }
 
 stack_else : (c : Scan) (t : Bool) (why : Refusal) (a : Atom) (S : List ℕ) → S ≡ piece_s c (cond t (wrong why) (token (atom a))) S
 stack_else c true why a S = refl

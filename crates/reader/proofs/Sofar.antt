@@ -1,5 +1,6 @@
 -- The first pass up to a place: numbers that stay small, and what is still to be counted.
 -- Assumes nothing.
+use Rattle.std.proofs.Common.{Err, Ok, Result}
 use mathlib.Core.Path.{◌≡◌, refl, sym, ap, ◌∙◌, subst}
 use mathlib.Core.List.{List}
 use Prim.Native.Nat.{ℕ, ◌+◌, ◌-◌, ◌*◌, ◌≤◌, ◌<◌}
@@ -15,16 +16,11 @@ use Rattle.brackets.specs.declared.scan.Phase.TheVariants.{Going, Done, Unclosed
 use Rattle.brackets.specs.declared.scan.Scan.{Scan}
 use Rattle.brackets.specs.Token.{opens, closes, atom, atom_text}
 use Rattle.brackets.specs.Count.{start, opened, closed, added, while}
-use Rattle.tokens.specs.declared.atom.Sized.{Sized}
-use Rattle.tokens.specs.declared.atom.Sized.TheVariants as S
-use Rattle.tokens.specs.declared.atom.Sized.TheVariants.{Text}
 use Rattle.tokens.specs.declared.lexeme.Lexeme.{Lexeme}
 use Rattle.tokens.specs.Lexeme.{blank_span, lexeme_at}
 use Rattle.tokens.specs.Piece.{Piece, space, token, wrong, piece_of, sized_of, Lexed, ok, bad, emit, lex}
 use Rattle.tokens.proofs.Lexes.{lex-nil, found_some, found_within, found-there, found-piece, lex-at, text_size, size_small, bytes-part}
 use Rattle.tokens.proofs.Pasts.{past-within, past_same}
-use Rattle.reader.specs.declared.tally.Tally.{Tally}
-use Rattle.reader.specs.declared.tally.Tally.TheVariants.{Scanned, Fault}
 use Rattle.reader.specs.Tally.{turned, tallied, Ample}
 
 -- how far one piece moves the numbers
@@ -46,9 +42,9 @@ near_closed c =
     (λ t. rw t (record { depth = omega arith; nodes = omega arith; text = omega arith }))
 
 -- the scan of a tally, or the one before it
-abbrev scan_of : Scan → Tally → Scan
-scan_of c (Scanned d) = d
-scan_of c (Fault why) = c
+abbrev scan_of : Scan → Result Scan Refusal → Scan
+scan_of c (Ok d) = d
+scan_of c (Err why) = c
 
 near_turned : (c : Scan) (p : Piece) → Near c (scan_of c (turned c p)) (text_size p)
 near_turned c space = record { depth = omega arith; nodes = omega arith; text = omega arith }
@@ -59,9 +55,9 @@ near_turned c (token (atom a)) =
 near_turned c (wrong why) = record { depth = omega arith; nodes = omega arith; text = omega arith }
 
 -- the rest of the tokens after one piece
-abbrev onward : Tally → Lexed → Tally
-onward (Scanned d) r = tallied d r
-onward (Fault why) r = Fault why
+abbrev onward : Result Scan Refusal → Lexed → Result Scan Refusal
+onward (Ok d) r = tallied d r
+onward (Err why) r = Err why
 
 tallied-emit : (c : Scan) (p : Piece) (r : Lexed) → tallied c (emit p r) ≡ onward (turned c p) r
 tallied-emit c space r = refl
@@ -70,11 +66,11 @@ tallied-emit c (token x) (bad why) = refl
 tallied-emit c (wrong why) r = refl
 
 -- the size that is known, or none
-abbrev size_of : Sized → ℕ
-size_of (Text n) = n
-size_of (S.Fault why) = 0
+abbrev size_of : Result ℕ Refusal → ℕ
+size_of (Ok n) = n
+size_of (Err why) = 0
 
-size_is : (p : Piece) (n : ℕ) → sized_of p ≡ Text n → n ≡ text_size p
+size_is : (p : Piece) (n : ℕ) → sized_of p ≡ Ok n → n ≡ text_size p
 size_is space n q = sym (ap size_of q)
 size_is (token opens) n q = sym (ap size_of q)
 size_is (token closes) n q = sym (ap size_of q)
@@ -92,7 +88,7 @@ pub sofar-start : (s : List ℕ) → Sofar s 0 start
 sofar-start s = record { within = omega arith; depth = omega arith; nodes = omega arith; text = omega arith; rest = refl }
 
 -- at the end nothing is left to count
-pub sofar-end : (s : List ℕ) (at : ℕ) (c : Scan) → Sofar s at c → length s ≤ at → Scanned c ≡ tallied start (lex s)
+pub sofar-end : (s : List ℕ) (at : ℕ) (c : Scan) → Sofar s at c → length s ≤ at → Ok c ≡ tallied start (lex s)
 sofar-end s at c h k = ap (tallied c) (sym (ap lex (drop_of_length-le s k) ∙ lex-nil)) ∙ h.rest
 
 -- white space changes nothing
@@ -135,7 +131,7 @@ module _ (s : List ℕ) (at : ℕ) (c : Scan) (l : Lexeme) (h : Sofar s at c) (b
       ∙ ap (λ (p : Piece). tallied c (emit p (lex (drop (at + l.width) s)))) (sym (found-piece s at l less is))
       ∙ ap (tallied c) (sym (lex-at s at l less is)) ∙ h.rest
 
-  pub sofar-step : (d : Scan) → Scanned d ≡ turned c piece → Sofar s (at + l.width) d
+  pub sofar-step : (d : Scan) → Ok d ≡ turned c piece → Sofar s (at + l.width) d
   sofar-step d q =
       let n : Near c d (text_size piece) = subst (λ (x : Scan). Near c x (text_size piece)) (sym (ap (scan_of c) q)) (near_turned c piece) in
       record {
@@ -143,8 +139,8 @@ module _ (s : List ℕ) (at : ℕ) (c : Scan) (l : Lexeme) (h : Sofar s at c) (b
         depth = omega (arith, n.depth, h.depth, found_some s at l less is);
         nodes = omega (arith, n.nodes, h.nodes, found_some s at l less is);
         text = omega (arith, n.text, h.text, text-small);
-        rest = ap (λ (t : Tally). onward t (lex (drop (at + l.width) s))) q ∙ on;
+        rest = ap (λ (t : Result Scan Refusal). onward t (lex (drop (at + l.width) s))) q ∙ on;
       }
 
-  pub sofar-fault : (r : Tally) (why : Refusal) → r ≡ Fault why → r ≡ turned c piece → r ≡ tallied start (lex s)
-  sofar-fault r why f q = f ∙ ap (λ (t : Tally). onward t (lex (drop (at + l.width) s))) (sym f ∙ q) ∙ on
+  pub sofar-fault : (r : Result Scan Refusal) (why : Refusal) → r ≡ Err why → r ≡ turned c piece → r ≡ tallied start (lex s)
+  sofar-fault r why f q = f ∙ ap (λ (t : Result Scan Refusal). onward t (lex (drop (at + l.width) s))) (sym f ∙ q) ∙ on

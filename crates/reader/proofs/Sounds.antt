@@ -1,5 +1,6 @@
 -- Every accepted tree is sound, so that its words and text pass the check of 27 as that same tree.
 -- Assumes nothing.
+use Rattle.std.proofs.Common.{Err, Ok}
 use mathlib.Core.Path.{◌≡◌, refl, sym, ◌∙◌, subst}
 use mathlib.Core.Bool.{Bool, true, false, cond, ◌&&◌}
 use mathlib.Core.List.{List, [], ◌∷◌, ◌++◌}
@@ -13,7 +14,6 @@ use Rattle.refusals.specs.declared.Refusal.{Refusal}
 use Rattle.utf8.specs.Octets.{utf8}
 use Rattle.words.specs.declared.digits.Radix.{Radix}
 use Rattle.words.specs.declared.digits.Radix.TheVariants.{Binary, Decimal, Hexadecimal}
-use Rattle.words.specs.declared.digits.Parsed.TheVariants.{Number, Refused}
 use Rattle.words.specs.Pair.{value, pair_of}
 use Rattle.words.specs.Radix.{base_of}
 use Rattle.words.specs.Run.{number, digits, some_byte, parsed}
@@ -63,7 +63,7 @@ some-length (b ∷ bs) h = omega arith
 
 -- a piece that a run gives is sound if its atom is
 run_when : (r : Radix) (s : List ℕ) (a b c : Bool) (make : ℕ → Atom) (why : Refusal) → a ≡ some_byte s → b ≡ digits r s → c ≡ ltb (number (base_of r) s) (2 ^ 128)
-    → ((n : ℕ) → Run r s n → Sound (leaf (make n))) → SoundPiece (from_parsed (cond (a && b && c) (Number (pair_of (number (base_of r) s))) (Refused why)) make)
+    → ((n : ℕ) → Run r s n → Sound (leaf (make n))) → SoundPiece (from_parsed (cond (a && b && c) (Ok (pair_of (number (base_of r) s))) (Err why)) make)
 run_when r s false b c make why p q o go = tt
 run_when r s true false c make why p q o go = tt
 run_when r s true true false make why p q o go = tt

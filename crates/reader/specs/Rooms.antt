@@ -1,5 +1,5 @@
 -- Document 01, "Numbers given back", 10, 11 and 12: the exact need where one room is one short, and rooms that are just enough.
-use Rattle.std.specs.Prelude.{◌≡◌, refl, List, [], ◌∷◌, ◌++◌, map, ℕ, replicate}
+use Rattle.std.specs.Prelude.{◌≡◌, refl, List, [], ◌∷◌, ◌++◌, map, ℕ, replicate, Err, Ok, Result}
 use Rattle.refusals.specs.Number.{number_of, detail_of}
 use Rattle.ground.specs.Bytes.{bytes}
 use Rattle.words.specs.Radix.{worth}
@@ -12,14 +12,14 @@ use Rattle.lexicon.specs.Class.{class_of}
 use Rattle.lexicon.specs.Span.{span_by, in_symbol}
 use Rattle.tokens.specs.Lexeme.{inside, lexeme_at}
 use Rattle.tokens.specs.Piece.{piece_at, lex_after}
-use Rattle.reader.specs.declared.read.Reading.{Reading}
-use Rattle.reader.specs.declared.read.Reading.TheVariants.{Read, Refused}
 use Rattle.reader.specs.Read.{parse, Left, reading}
+use Rattle.reader.specs.declared.read.Reading.{Reading}
+use Rattle.refusals.specs.declared.Refusal.{Refusal}
 
 -- a refusal's number and need, or 0 and the nodes, the bytes of text and the depth of what is read
-abbrev told : Reading → List ℕ
-told (Read n x d) = 0 ∷ n ∷ x ∷ d ∷ []
-told (Refused why) = number_of why ∷ detail_of why ∷ []
+abbrev told : Result Reading Refusal → List ℕ
+told (Ok it) = 0 ∷ it.nodes ∷ it.text ∷ it.depth ∷ []
+told (Err why) = number_of why ∷ detail_of why ∷ []
 
 -- six nodes, four bytes of text, and two brackets open at most
 abbrev within : ℕ → ℕ → ℕ → Left
@@ -38,7 +38,7 @@ rooms = refl
 -- with one more of each: the words and the text of the tree, the used entries of the stack zeroed, and what lies behind as it was
 left_behind : within 25 5 3
     ≡ record {
-      answer = Read 6 4 2;
+      answer = (Ok (record { nodes = 6; text = 4; depth = 2 }));
       nodes =
           5 ∷ 2 ∷ 6 ∷ 0
           ∷ 5 ∷ 1 ∷ 3 ∷ 0

@@ -11,7 +11,7 @@ ghost use Rattle.reader.specs.Write.{FineNode, Noded, FineBracket, OpenedBy, Clo
 use arena::{BIT_VEC, NUMERAL, STRING, SYMBOL};
 use brackets::{Scan, Words};
 use tokens::Kind;
-use words::{Parsed, Radix};
+use words::Radix;
 
 // An atom's node; its text is written already.
 fn write_node(scan: Scan, words: Words, size: usize, nodes: &mut [u64], stack: &[u64]) -> Scan
@@ -37,8 +37,7 @@ fn write_bits(scan: Scan, radix: Radix, digits: &[u8], nodes: &mut [u64], stack:
     requires { (length digits.now ≤ input_limit) × FineNumber scan (piece_of (Bits radix) digits.now) nodes.old stack.now }
     ensures { Numbered scan (piece_of (Bits radix) digits.now) nodes.old nodes.new stack.now result }
 {
-    let found = words::parse(digits, radix);
-    let Parsed::Number(number) = found else {
+    let Ok(number) = words::parse(digits, radix) else {
         return scan;
     };
     let width = digit_bits(radix) * digits.len() as u64;
@@ -56,8 +55,7 @@ fn write_numeral(scan: Scan, digits: &[u8], nodes: &mut [u64], stack: &[u64]) ->
     requires { FineNumber scan (piece_of Number digits.now) nodes.old stack.now }
     ensures { Numbered scan (piece_of Number digits.now) nodes.old nodes.new stack.now result }
 {
-    let found = words::parse(digits, Radix::Decimal);
-    let Parsed::Number(number) = found else {
+    let Ok(number) = words::parse(digits, Radix::Decimal) else {
         return scan;
     };
     let words = Words {
@@ -134,15 +132,13 @@ fn write_piece(
     ensures { Pieced scan (piece_of kind content.now) nodes.old nodes.new text.old text.new stack.old stack.new result }
 {
     match kind {
-        Kind::Blank => scan,
+        Kind::Blank | Kind::Stray | Kind::Unclosed => scan,
         Kind::Opening => write_open(scan, nodes, stack),
         Kind::Closing => write_close(scan, nodes, stack),
         Kind::Bits(radix) => write_bits(scan, radix, content, nodes, stack),
         Kind::Number => write_numeral(scan, content, nodes, stack),
         Kind::Quoted => write_string(scan, content, nodes, text, stack),
         Kind::Name => write_name(scan, content, nodes, text, stack),
-        Kind::Stray => scan,
-        Kind::Unclosed => scan,
     }
 }
 
@@ -162,8 +158,7 @@ pub fn write_tokens(
         let found = tokens::lexeme_at(table, s, at);
         let from = at + found.skip;
         let end = from + found.size;
-        let kind = found.kind;
-        scan = write_piece(scan, kind, &s[from..end], nodes, text, stack);
+        scan = write_piece(scan, found.kind, &s[from..end], nodes, text, stack);
         at = tokens::past_blanks(table, s, at + found.width);
     }
 }

@@ -1,5 +1,5 @@
 // What goes to standard output.
-ghost use Rattle.std.specs.Prelude.{◌≡◌, min, ◌≤◌, length};
+ghost use Rattle.std.specs.Prelude.{◌≤◌, length};
 
 use crate::puts::{put, put_hex};
 use crate::streams::OUTPUT;
@@ -7,8 +7,7 @@ use crate::streams::OUTPUT;
 // The front of a buffer up to an end.
 pub fn flush(line: &[u8], end: usize) {
     if end <= line.len() {
-        let zero = 0;
-        io::write_all(OUTPUT, &line[zero..end]);
+        io::write_all(OUTPUT, &line[..end]);
     }
 }
 
@@ -32,20 +31,10 @@ pub fn room(line: &[u8], end: usize, spare: usize) -> usize
     0
 }
 
-fn least(a: usize, b: usize) -> usize
-    ensures { result ≡ min a b }
-{
-    if a < b { a } else { b }
-}
-
 // Bytes as pairs of digits on standard output, some thousands at a time by way of a lent line.
 pub fn write_hex(bytes: &[u8], line: &mut [u8]) {
-    let mut at = 0;
-    while at < bytes.len() {
-        let end = at + least(bytes.len() - at, 8192);
-        let to = put_hex(&bytes[at..end], line, 0);
-        let zero = 0;
-        io::write_all(OUTPUT, &line[zero..to]);
-        at = end;
+    for chunk in bytes.chunks(8192) {
+        let to = put_hex(chunk, line, 0);
+        flush(line, to);
     }
 }

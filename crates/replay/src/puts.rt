@@ -1,52 +1,39 @@
 // Pieces of an answer, each put at a place of a lent buffer.
+// Stays: a lent buffer with a place beside it, since no heap is used: each piece answers the place of the next one.
 ghost use Rattle.std.specs.Prelude.{length};
 ghost use Rattle.replay.specs.Places.{Onward};
 
-use lent::Written;
 use refusals::Refusal;
 
 // Bytes as they are from a place on, as many as there is room for.
 pub fn put(bytes: &[u8], out: &mut [u8], start: usize) -> usize
     ensures { Onward (length out.old) start result }
 {
-    let mut to = start;
-    let mut at = 0;
-    while at < bytes.len() {
-        if out.len() <= to {
-            return to;
-        }
-        out[to] = bytes[at];
-        to += 1;
-        at += 1;
+    if out.len() <= start {
+        return start;
     }
-    to
+    let count = bytes.len().min(out.len() - start);
+    out[start..start + count].copy_from_slice(&bytes[..count]);
+    start + count
 }
 
 fn digit(worth: u8) -> u8 {
-    let w = worth % 16;
-    if w < 10 { 48 + w } else { 87 + w }
+    b"0123456789abcdef"[(worth % 16) as usize]
 }
 
 // Bytes as pairs of digits from a place on, as many as there is room for.
 pub fn put_hex(bytes: &[u8], out: &mut [u8], start: usize) -> usize
     ensures { Onward (length out.old) start result }
 {
-    let mut to = start;
-    let mut at = 0;
-    while at < bytes.len() {
-        if out.len() <= to {
-            return to;
-        }
-        if out.len() - to < 2 {
-            return to;
-        }
-        let byte = bytes[at];
-        out[to] = digit(byte / 16);
-        out[to + 1] = digit(byte % 16);
-        to += 2;
-        at += 1;
+    if out.len() <= start {
+        return start;
     }
-    to
+    let count = bytes.len().min((out.len() - start) / 2);
+    for (byte, pair) in bytes.iter().zip(out[start..].chunks_exact_mut(2)) {
+        pair[0] = digit(*byte / 16);
+        pair[1] = digit(*byte % 16);
+    }
+    start + 2 * count
 }
 
 // A number's decimal text from a place on, or nothing where there is no room for it.
@@ -56,14 +43,9 @@ pub fn put_number(number: u64, out: &mut [u8], start: usize) -> usize
     if out.len() <= start {
         return start;
     }
-    let found = decimals::write_natural(number, &mut out[start..]);
-    let Written::Length(count) = found else {
-        return start;
-    };
-    if count <= out.len() - start {
-        start + count
-    } else {
-        start
+    match decimals::write_natural(number, &mut out[start..]) {
+        Ok(count) if count <= out.len() - start => start + count,
+        _ => start,
     }
 }
 
@@ -71,15 +53,16 @@ pub fn put_number(number: u64, out: &mut [u8], start: usize) -> usize
 pub fn put_word(word: u64, out: &mut [u8], start: usize) -> usize
     ensures { Onward (length out.old) start result }
 {
-    let mut bytes = [0u8; 8];
-    let mut rest = word;
-    let mut at: usize = 8;
-    while 0 < at {
-        at -= 1;
-        bytes[at] = (rest % 256) as u8;
-        rest /= 256;
-    }
-    put_hex(&bytes, out, start)
+    put_hex(&word.to_be_bytes(), out, start)
+}
+
+// A word in as few digits as it takes from a place on.
+pub fn put_digits(word: u64, out: &mut [u8], start: usize) -> usize
+    ensures { Onward (length out.old) start result }
+{
+    let mut digits = [0u8; 16];
+    let count = io::hex(word, 1, &mut digits);
+    put(&digits[..count], out, start)
 }
 
 // A name and a number.

@@ -1,4 +1,5 @@
 // Room that the programs lend.
+// Stays: an array of a fixed length, since a program has fixed memory and no heap.
 ghost use Rattle.std.specs.Prelude.{◌≡◌, length};
 
 // For 4,096 open brackets, or ends.

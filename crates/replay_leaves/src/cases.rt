@@ -1,96 +1,54 @@
 // One case: its first byte says which function it is for, and its fields are in hexadecimal.
 use crate::shows;
-use words::{Pair, Radix};
+use words::Radix;
 
-// `U` the test of UTF-8, `E` an encoding, `B` `D` `X` a run of digits, `S` sign extension, `C` order, `W` a power of two,
-// `I` the signed low word, `N` a number, `T` a string with a room of its own; any other line is a string in plenty of room.
+// A capital letter names a function, and its fields follow; any other line is a string in plenty of room.
 pub fn answer(case: &[u8], bytes: &mut [u8], text: &mut [u8], line: &mut [u8]) {
-    if case.len() == 0 {
-        return string(case, bytes, text, line);
+    match case {
+        [b'T', _, fields @ ..] => string_in_room(fields, bytes, text, line),
+        [kind, _, fields @ ..] if kind.is_ascii_uppercase() => leaf(*kind, fields, bytes, line),
+        [kind] if kind.is_ascii_uppercase() => {}
+        _ => string(case, bytes, text, line),
     }
-    let kind = case[0];
-    if 90 < kind {
-        return string(case, bytes, text, line);
-    }
-    if kind < 65 {
-        return string(case, bytes, text, line);
-    }
-    if kind == b'T' {
-        return string_in_room(case, bytes, text, line);
-    }
-    if case.len() < 2 {
-        return;
-    }
-    let start = 2;
-    let zero = 0;
-    let split = replay::field_end(case, start, b' ');
-    let first = replay::number(&case[start..split]);
-    if kind == b'E' {
-        return shows::encoding(utf8::encode((first.low % 4294967296) as u32), line);
-    }
-    if kind == b'I' {
-        return shows::signed(first.signed_low(), line);
-    }
-    if kind == b'N' {
-        return shows::natural(first.low, line);
-    }
-    if kind == b'S' {
-        return shows::pair(second(case, split).sign_extend(first.low), line);
-    }
-    if kind == b'W' {
-        return shows::yes_or_no(second(case, split).reaches(first.low), line);
-    }
-    if kind == b'C' {
-        return shows::order(first.compare(second(case, split)), line);
-    }
-    let count = replay::unhex(&case[start..split], bytes);
-    let run = &bytes[zero..count];
-    if kind == b'U' {
-        return shows::yes_or_no(utf8::is_utf8(run), line);
-    }
-    if kind == b'B' {
-        return shows::parsed(words::parse(run, Radix::Binary), line);
-    }
-    if kind == b'D' {
-        return shows::parsed(words::parse(run, Radix::Decimal), line);
-    }
-    shows::parsed(words::parse(run, Radix::Hexadecimal), line)
 }
 
-// The number of the field after the one that ends at split.
-fn second(case: &[u8], split: usize) -> Pair {
-    if case.len() <= split {
-        return Pair::zero();
+// `U` the test of UTF-8, `E` an encoding, `B` `D` `X` a run of digits, `S` sign extension, `C` order, `W` a power of two,
+// `I` the signed low word, `N` a number.
+fn leaf(kind: u8, fields: &[u8], bytes: &mut [u8], line: &mut [u8]) {
+    let (field, behind) = replay::split_field(fields);
+    let first = replay::number(field);
+    let second = replay::number(behind);
+    let count = replay::unhex(field, bytes);
+    let run = &bytes[..count];
+    match kind {
+        b'E' => shows::encoding(utf8::encode((first.low % (1 << 32)) as u32), line),
+        b'I' => shows::signed(first.signed_low(), line),
+        b'N' => shows::natural(first.low, line),
+        b'S' => shows::pair(second.sign_extend(first.low), line),
+        b'W' => shows::yes_or_no(second.reaches(first.low), line),
+        b'C' => shows::order(first.compare(second), line),
+        b'U' => shows::yes_or_no(utf8::is_utf8(run), line),
+        b'B' => shows::parsed(words::parse(run, Radix::Binary), line),
+        b'D' => shows::parsed(words::parse(run, Radix::Decimal), line),
+        _ => shows::parsed(words::parse(run, Radix::Hexadecimal), line),
     }
-    let start = split + 1;
-    replay::number(&case[start..])
 }
 
 fn string(case: &[u8], bytes: &mut [u8], text: &mut [u8], line: &mut [u8]) {
-    let zero = 0;
     let count = replay::unhex(case, bytes);
-    let found = strings::decode_string(&bytes[zero..count], text);
+    let found = strings::decode_string(&bytes[..count], text);
     shows::string(found, text, line);
 }
 
-// The first field is the room: the whole of it is marked first and shown afterwards.
-fn string_in_room(case: &[u8], bytes: &mut [u8], text: &mut [u8], line: &mut [u8]) {
-    if case.len() < 2 {
+// `T`: the first field is the room, the whole of which is marked first and shown afterwards.
+fn string_in_room(fields: &[u8], bytes: &mut [u8], text: &mut [u8], line: &mut [u8]) {
+    let (field, _) = replay::split_field(fields);
+    let room = (replay::number(field).low % 4096) as usize;
+    if text.len() < room || fields.len() <= field.len() {
         return;
     }
-    let start = 2;
-    let zero = 0;
-    let split = replay::field_end(case, start, b' ');
-    let room = (replay::number(&case[start..split]).low % 4096) as usize;
-    if text.len() < room {
-        return;
-    }
-    if case.len() <= split {
-        return;
-    }
-    let next = split + 1;
-    let count = replay::unhex(&case[next..], bytes);
-    string_marked(&bytes[zero..count], &mut text[zero..room], line);
+    let count = replay::unhex(&fields[field.len() + 1..], bytes);
+    string_marked(&bytes[..count], &mut text[..room], line);
 }
 
 fn string_marked(s: &[u8], room: &mut [u8], line: &mut [u8]) {

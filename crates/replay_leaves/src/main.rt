@@ -4,26 +4,13 @@
 mod cases;
 mod shows;
 
+// Stays: arrays of a fixed length, since a program has fixed memory and no heap.
 fn main() {
     let mut input = io::large_buffer();
     let mut bytes = io::large_buffer();
     let mut text = io::large_buffer();
     let mut line = io::large_buffer();
-    replay_all(&mut input, &mut bytes, &mut text, &mut line);
-}
-
-// The count of turns is only there to fall.
-fn replay_all(input: &mut [u8], bytes: &mut [u8], text: &mut [u8], line: &mut [u8]) {
-    let mut at = replay::before_lines();
-    let mut turns: usize = 1000000000;
-    while 0 < turns {
-        turns -= 1;
-        at = replay::next_line(input, at);
-        if !at.found {
-            return;
-        }
-        let start = at.start;
-        let stop = at.stop;
-        cases::answer(&input[start..stop], bytes, text, line);
-    }
+    replay::each_line(&mut input, |case| {
+        cases::answer(case, &mut bytes, &mut text, &mut line)
+    });
 }

@@ -1,9 +1,8 @@
 // An answer, as a line on standard output.
-use lent::Written;
 use refusals::Refusal;
 use replay::OUTPUT;
 use utf8::Encoded;
-use words::{Order, Pair, Parsed};
+use words::{Order, Pair};
 
 fn word(name: &[u8], line: &mut [u8]) {
     let end = replay::put(name, line, 0);
@@ -11,11 +10,14 @@ fn word(name: &[u8], line: &mut [u8]) {
 }
 
 pub fn yes_or_no(answer: bool, line: &mut [u8]) {
-    if answer {
-        word(b"yes", line);
-    } else {
-        word(b"no", line);
-    }
+    word(
+        if answer {
+            b"yes".as_slice()
+        } else {
+            b"no".as_slice()
+        },
+        line,
+    );
 }
 
 // The pair that is handed on is shown behind the word.
@@ -43,10 +45,10 @@ fn refusal(why: Refusal, line: &mut [u8]) {
     replay::finish(line, end);
 }
 
-pub fn parsed(answer: Parsed, line: &mut [u8]) {
+pub fn parsed(answer: Result<Pair, Refusal>, line: &mut [u8]) {
     match answer {
-        Parsed::Number(number) => pair(number, line),
-        Parsed::Refused(why) => refusal(why, line),
+        Ok(number) => pair(number, line),
+        Err(why) => refusal(why, line),
     }
 }
 
@@ -74,42 +76,30 @@ pub fn signed(number: i64, line: &mut [u8]) {
     decimal(decimals::write_signed(number, line), line);
 }
 
-fn decimal(written: Written, line: &mut [u8]) {
-    let Written::Length(end) = written else {
-        return;
-    };
-    replay::finish(line, end);
+fn decimal(written: Result<usize, Refusal>, line: &mut [u8]) {
+    if let Ok(end) = written {
+        replay::finish(line, end);
+    }
 }
 
-pub fn string(answer: Written, text: &[u8], line: &mut [u8]) {
+pub fn string(answer: Result<usize, Refusal>, text: &[u8], line: &mut [u8]) {
     match answer {
-        Written::Length(count) => {
-            if count <= text.len() {
-                let zero = 0;
-                io::write_all(OUTPUT, b"text=");
-                replay::write_hex(&text[zero..count], line);
-                io::write_all(OUTPUT, b"\n");
-            }
+        Ok(count) if count <= text.len() => {
+            io::write_all(OUTPUT, b"text=");
+            replay::write_hex(&text[..count], line);
+            io::write_all(OUTPUT, b"\n");
         }
-        Written::Refused(why) => refusal(why, line),
+        Ok(_) => {}
+        Err(why) => refusal(why, line),
     }
 }
 
 // The answer with its detail, and every byte that was lent.
-pub fn lent(answer: Written, buffer: &[u8], line: &mut [u8]) {
-    match answer {
-        Written::Length(count) => {
-            let end = replay::put_named(b"length=", count, line, 0);
-            lent_buffer(buffer, line, end);
-        }
-        Written::Refused(why) => {
-            let end = replay::put_detailed(why, line, 0);
-            lent_buffer(buffer, line, end);
-        }
-    }
-}
-
-fn lent_buffer(buffer: &[u8], line: &mut [u8], start: usize) {
+pub fn lent(answer: Result<usize, Refusal>, buffer: &[u8], line: &mut [u8]) {
+    let start = match answer {
+        Ok(count) => replay::put_named(b"length=", count, line, 0),
+        Err(why) => replay::put_detailed(why, line, 0),
+    };
     let name = replay::put(b" buffer=", line, start);
     let end = replay::put_hex(buffer, line, name);
     replay::finish(line, end);

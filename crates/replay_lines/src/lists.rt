@@ -6,15 +6,12 @@ pub fn letters(case: &[u8], start: usize, out: &mut [u8]) -> usize
     ensures { result ≤ length out.old }
 {
     let end = replay::field_end(case, start, b' ');
+    let Some(field) = case.get(start..end) else {
+        return 0;
+    };
     let mut count: usize = 0;
-    let mut at = start;
-    while at < end {
-        let stop = replay::field_end(case, at, b',');
-        if end < stop {
-            return count + replay::unhex(&case[at..end], &mut out[count..]);
-        }
-        count += replay::unhex(&case[at..stop], &mut out[count..]);
-        at = stop + 1;
+    for part in field.split(|byte| *byte == b',') {
+        count += replay::unhex(part, &mut out[count..]);
     }
     count
 }

@@ -8,20 +8,20 @@ fn put_verdict(right: bool, line: &mut [u8]) -> usize
     ensures { Onward (length line.old) 0 result }
 {
     if right {
-        return 0;
+        0
+    } else {
+        replay::put(b"wrong=", line, 0)
     }
-    replay::put(b"wrong=", line, 0)
 }
 
 // The line that stands at the front of a buffer.
 pub fn written(right: bool, count: usize, buffer: &[u8], line: &mut [u8]) {
-    if buffer.len() < count {
+    let Some(found) = buffer.get(..count) else {
         return;
-    }
-    let zero = 0;
+    };
     let start = put_verdict(right, line);
     let named = replay::put(b"line=", line, start);
-    let end = replay::put_hex(&buffer[zero..count], line, named);
+    let end = replay::put_hex(found, line, named);
     replay::finish(line, end);
 }
 

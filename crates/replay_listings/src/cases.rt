@@ -1,8 +1,8 @@
-// One case: `M` for the program's rooms, `L` for larger ones or another letter for what is not lent, small where the reply is one to get-value;
-// the tables' text and the reply, in hexadecimal.
+// One case: a letter for its form and its rooms, the tables' text and the reply, in hexadecimal.
 ghost use Rattle.std.specs.Prelude.{◌≡◌, length};
 
-use crate::rooms::show_case;
+use crate::rooms::{Case, Rooms, show_case};
+use commands::Form;
 
 // Room for an input that is one byte too long.
 fn case_bytes() -> [u8; 65537]
@@ -11,18 +11,28 @@ fn case_bytes() -> [u8; 65537]
     [0; 65537]
 }
 
-pub fn answer(case: &[u8]) {
-    if case.len() < 2 {
-        return;
+// A small letter is of a reply to get-value, in the rooms of the large one.
+fn form_of(letter: u8) -> Form {
+    if letter < b'a' {
+        Form::Model
+    } else {
+        Form::Values
     }
+}
+
+pub fn answer(case: &[u8]) {
+    let [letter, _, rest @ ..] = case else {
+        return;
+    };
+    let (first, second) = replay::split_field(rest);
     let mut tables = case_bytes();
     let mut reply = case_bytes();
-    let letter = case[0];
-    let start = 2;
-    let end = replay::field_end(case, start, b' ');
-    let rows = replay::unhex(&case[start..end], &mut tables);
-    let second = replay::next_field(case, start);
-    let bytes = replay::unhex(&case[second..], &mut reply);
-    let zero = 0;
-    show_case(letter, &tables[zero..rows], &reply[zero..bytes]);
+    let rows = replay::unhex(first, &mut tables);
+    let bytes = replay::unhex(second, &mut reply);
+    show_case(Case {
+        form: form_of(*letter),
+        rooms: Rooms::from(*letter),
+        tables: &tables[..rows],
+        reply: &reply[..bytes],
+    });
 }

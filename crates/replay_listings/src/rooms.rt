@@ -2,46 +2,44 @@
 ghost use Rattle.std.specs.Prelude.{◌≡◌, ◌≤◌, length};
 
 use commands::Form;
-use lent::Written;
+use refusals::Refusal;
 
-// The number of 26.
-const OUT_ROOM: u64 = 26;
-
-// A small letter is of a reply to get-value, in the rooms of the large one.
-fn form_of(letter: u8) -> Form {
-    if letter < b'a' {
-        return Form::Model;
-    }
-    Form::Values
+// What is lent: the program's rooms, larger ones, those without one of the four, or no tables and no words at all.
+#[derive(Clone, Copy, PartialEq, Eq)]
+pub enum Rooms {
+    Program,
+    Large,
+    NoNodes,
+    NoText,
+    NoStack,
+    NoOut,
+    NoArena,
 }
 
-fn rooms_of(letter: u8) -> u8 {
-    if letter < b'a' {
-        return letter;
+impl From<u8> for Rooms {
+    fn from(letter: u8) -> Rooms {
+        match letter.to_ascii_uppercase() {
+            b'M' => Rooms::Program,
+            b'N' => Rooms::NoNodes,
+            b'T' => Rooms::NoText,
+            b'S' => Rooms::NoStack,
+            b'O' => Rooms::NoOut,
+            b'A' => Rooms::NoArena,
+            _ => Rooms::Large,
+        }
     }
-    letter - 32
 }
 
-// How much of a room is lent: nothing of the one that the case's letter names.
-fn room(kind: u8, letter: u8, whole: usize) -> usize
-    ensures { result ≤ whole }
-{
-    if kind == letter {
-        return 0;
-    }
-    whole
-}
-
-// The listing of no tables and no words, which are no arena.
-fn list_nothing(form: Form, out: &mut [u8]) -> Written {
-    let words: [u64; 0] = [];
-    let bytes: [u8; 0] = [];
-    listing::list_form(
-        form, &words, &words, &words, &words, &words, &bytes, &words, &bytes, out,
-    )
+#[derive(Clone, Copy)]
+pub struct Case<'a> {
+    pub form: Form,
+    pub rooms: Rooms,
+    pub tables: &'a [u8],
+    pub reply: &'a [u8],
 }
 
 // Room for 16,384 nodes.
+// Stays: arrays of a fixed length, since a program has fixed memory and no heap.
 fn node_words() -> [u64; 65536]
     ensures { 65536 ≡ length result }
 {
@@ -54,110 +52,99 @@ fn stack_words() -> [u64; 8192]
     [0; 8192]
 }
 
-// In rooms of its own, but for the one that the letter takes away.
-fn list_less(form: Form, kind: u8, tables: &[u8], reply: &[u8], out: &mut [u8]) -> Written {
+// How much of a room is lent: nothing of one that is taken away.
+fn room(taken: bool, whole: usize) -> usize
+    ensures { result ≤ whole }
+{
+    if taken { 0 } else { whole }
+}
+
+// In rooms of its own, but for the one that the case takes away.
+fn list_less(case: Case<'_>, out: &mut [u8]) -> Result<usize, Refusal> {
     let mut nodes = node_words();
     let mut text = io::large_buffer();
     let mut stack = stack_words();
-    let zero = 0;
-    let words = room(kind, b'N', nodes.len());
-    let bytes = room(kind, b'T', text.len());
-    let depth = room(kind, b'S', stack.len());
-    let size = room(kind, b'O', out.len());
+    let words = room(case.rooms == Rooms::NoNodes, nodes.len());
+    let bytes = room(case.rooms == Rooms::NoText, text.len());
+    let depth = room(case.rooms == Rooms::NoStack, stack.len());
+    let size = room(case.rooms == Rooms::NoOut, out.len());
     reply::list_in(
-        form,
-        tables,
-        reply,
-        &mut nodes[zero..words],
-        &mut text[zero..bytes],
-        &mut stack[zero..depth],
-        &mut out[zero..size],
+        case.form,
+        case.tables,
+        case.reply,
+        &mut nodes[..words],
+        &mut text[..bytes],
+        &mut stack[..depth],
+        &mut out[..size],
     )
 }
 
-fn list(letter: u8, tables: &[u8], reply: &[u8], out: &mut [u8]) -> Written {
-    let form = form_of(letter);
-    let kind = rooms_of(letter);
-    if kind == b'M' {
-        return reply::list_reply(form, tables, reply, out);
+// The listing of no tables and no words, which are no arena.
+fn list_nothing(form: Form, out: &mut [u8]) -> Result<usize, Refusal> {
+    listing::list_form(form, &[], &[], &[], &[], &[], &[], &[], &[], out)
+}
+
+fn list(case: Case<'_>, out: &mut [u8]) -> Result<usize, Refusal> {
+    match case.rooms {
+        Rooms::Program => reply::list_reply(case.form, case.tables, case.reply, out),
+        Rooms::NoArena => list_nothing(case.form, out),
+        _ => list_less(case, out),
     }
-    if kind == b'A' {
-        return list_nothing(form, out);
-    }
-    list_less(form, kind, tables, reply, out)
 }
 
 // What is printed, in the program's rooms by the function behind it.
-fn print(letter: u8, tables: &[u8], reply: &[u8], out: &mut [u8]) -> usize {
-    if rooms_of(letter) == b'M' {
-        return reply::print_reply(form_of(letter), tables, reply, out);
+fn print(case: Case<'_>, out: &mut [u8]) -> usize {
+    if case.rooms == Rooms::Program {
+        return reply::print_reply(case.form, case.tables, case.reply, out);
     }
-    let answer = list(letter, tables, reply, out);
-    match answer {
-        Written::Length(count) => count,
-        Written::Refused(why) => reply::put_refusal(why, out),
+    match list(case, out) {
+        Ok(count) => count,
+        Err(why) => reply::put_refusal(why, out),
     }
 }
 
 // What an answer tells: a length, or a refusal's detail.
-fn told(answer: Written) -> usize {
+fn told(answer: Result<usize, Refusal>) -> usize {
     match answer {
-        Written::Length(count) => count,
-        Written::Refused(why) => why.detail(),
+        Ok(count) => count,
+        Err(why) => why.detail(),
     }
 }
 
 // The need, and what the listing came to in just as much and in one byte less.
-fn show_told(need: usize, full: Written, short: Written, line: &mut [u8]) {
+fn show_told(
+    need: usize,
+    full: Result<usize, Refusal>,
+    short: Result<usize, Refusal>,
+    line: &mut [u8],
+) {
     let one = replay::put_named(b"need=", need, line, 0);
     let two = replay::put_named(b"\nfull=", told(full), line, one);
     let three = replay::put_named(b"\nshort=", told(short), line, two);
     replay::finish(line, three);
 }
 
-// The listing in just as much as it needs, and in one byte less.
-fn show_rooms(
-    letter: u8,
-    tables: &[u8],
-    reply: &[u8],
-    out: &mut [u8],
-    need: usize,
-    line: &mut [u8],
-) {
-    if out.len() < need {
+// The need of a listing is what it tells in no room, where a room is lent at all; it is listed in just as much, and in one byte less.
+fn show_need(case: Case<'_>, out: &mut [u8], line: &mut [u8]) {
+    if case.rooms == Rooms::NoOut {
         return;
     }
-    if need == 0 {
+    let Err(Refusal::OutRoom(need)) = list(case, &mut out[..0]) else {
+        return;
+    };
+    if out.len() < need || need == 0 {
         return;
     }
-    let zero = 0;
-    let full = list(letter, tables, reply, &mut out[zero..need]);
-    let less = need - 1;
-    let short = list(letter, tables, reply, &mut out[zero..less]);
+    let full = list(case, &mut out[..need]);
+    let short = list(case, &mut out[..need - 1]);
     show_told(need, full, short, line);
 }
 
-// The need of a listing is what it tells in no room, where a room is lent at all.
-fn show_need(letter: u8, tables: &[u8], reply: &[u8], out: &mut [u8], line: &mut [u8]) {
-    if rooms_of(letter) == b'O' {
-        return;
-    }
-    let zero = 0;
-    let none = list(letter, tables, reply, &mut out[zero..zero]);
-    let Written::Refused(why) = none else {
-        return;
-    };
-    if why.number() != OUT_ROOM {
-        return;
-    }
-    show_rooms(letter, tables, reply, out, why.detail(), line);
-}
-
-pub fn show_case(letter: u8, tables: &[u8], reply: &[u8]) {
+pub fn show_case(case: Case<'_>) {
     let mut out = io::large_buffer();
     let mut line = io::buffer();
-    let count = print(letter, tables, reply, &mut out);
+    let count = print(case, &mut out);
     replay::flush(&out, count);
-    show_need(letter, tables, reply, &mut out, &mut line);
+    show_need(case, &mut out, &mut line);
     replay::finish(&mut line, 0);
 }

@@ -1,82 +1,68 @@
 // One case: its first byte says what is asked, and its fields are in hexadecimal, a space between two.
-ghost use Rattle.std.specs.Prelude.{◌≤◌};
 ghost use Rattle.replay_tables.specs.Rooms.{Within};
 
-use crate::rooms::Words;
+use crate::rooms::{Tables, front};
 use crate::{fields, rooms, shows};
-use tables::{Found, Wanted};
-use tables_text::TablesRead;
+use replay::split_field;
+use tables::Wanted;
+use tables_text::Counts;
 
 // `T` a text read in plenty of room, `R` one in rooms of its own, `K` the check of words, `F` what is found in a text's tables.
 pub fn answer(case: &[u8], line: &mut [u8]) {
-    if case.len() < 2 {
-        return;
+    match case {
+        [b'K', _, rest @ ..] => words(rest, line),
+        [b'F', _, rest @ ..] => search(rest, line),
+        [b'R', _, rest @ ..] => in_rooms(rest, line),
+        [_, _, rest @ ..] => in_plenty(rest, line),
+        _ => {}
     }
-    let kind = case[0];
-    if kind == b'K' {
-        return words(&case[2..], line);
-    }
-    if kind == b'F' {
-        return search(&case[2..], line);
-    }
-    if kind == b'R' {
-        return in_rooms(&case[2..], line);
-    }
-    in_plenty(&case[2..], line);
 }
 
 fn in_plenty(case: &[u8], line: &mut [u8]) {
-    let plenty = Words {
+    let plenty = Counts {
         sorts: rooms::ROWS,
         fields: rooms::FIELDS,
         variables: rooms::ROWS,
         functions: rooms::ROWS,
         members: rooms::ROWS,
     };
-    let mut text = rooms::text_bytes();
-    let zero = 0;
-    let count = fields::put_bytes(case, zero, &mut text);
-    read(&text[zero..count], plenty, line);
+    read(case, plenty, line);
 }
 
 // The first field has the five rooms in words.
 fn in_rooms(case: &[u8], line: &mut [u8]) {
+    let (field, rest) = split_field(case);
     let mut asked = [0u64; 5];
-    fields::put_words(case, 0, &mut asked);
-    let lent = Words {
+    fields::put_words(field, &mut asked);
+    let lent = Counts {
         sorts: fields::least(asked[0], rooms::ROWS),
         fields: fields::least(asked[1], rooms::FIELDS),
         variables: fields::least(asked[2], rooms::ROWS),
         functions: fields::least(asked[3], rooms::ROWS),
         members: fields::least(asked[4], rooms::ROWS),
     };
-    let mut text = rooms::text_bytes();
-    let zero = 0;
-    let count = fields::put_bytes(case, replay::next_field(case, zero), &mut text);
-    read(&text[zero..count], lent, line);
+    read(rest, lent, line);
 }
 
-fn read(text: &[u8], lent: Words, line: &mut [u8])
+// The text of the first field, read in rooms of so many words.
+fn read(case: &[u8], lent: Counts, line: &mut [u8])
     requires { Within lent }
 {
+    let (field, _) = split_field(case);
+    let mut text = rooms::text_bytes();
+    let count = fields::put_bytes(field, &mut text);
     let mut sorts = rooms::row_words();
     let mut fields = rooms::field_words();
     let mut variables = rooms::row_words();
     let mut functions = rooms::row_words();
     let mut members = rooms::row_words();
-    let zero = 0;
-    let a = lent.sorts;
-    let b = lent.fields;
-    let c = lent.variables;
-    let d = lent.functions;
-    let e = lent.members;
     read_in(
-        text,
-        &mut sorts[zero..a],
-        &mut fields[zero..b],
-        &mut variables[zero..c],
-        &mut functions[zero..d],
-        &mut members[zero..e],
+        &text[..count],
+        &mut sorts[..lent.sorts],
+        &mut fields[..lent.fields],
+        &mut variables[..lent.variables],
+        &mut functions[..lent.functions],
+        &mut members[..lent.members],
         line,
     );
 }
@@ -91,57 +77,55 @@ fn read_in(
     line: &mut [u8],
 ) {
     let found = tables_text::read_tables(text, sorts, fields, variables, functions, members);
-    shows::reading(
-        found, text, sorts, fields, variables, functions, members, line,
-    );
+    let tables = Tables {
+        sorts,
+        fields,
+        variables,
+        functions,
+        members,
+    };
+    shows::reading(found, text, tables, line);
 }
 
 // The words of the five tables, and the bytes that names and texts stand in.
 fn words(case: &[u8], line: &mut [u8]) {
-    let mut text = rooms::text_bytes();
-    let zero = 0;
-    let second = replay::next_field(case, zero);
-    let third = replay::next_field(case, second);
-    let fourth = replay::next_field(case, third);
-    let fifth = replay::next_field(case, fourth);
-    let count = fields::put_bytes(case, replay::next_field(case, fifth), &mut text);
-    words_in(case, &text[zero..count], line);
-}
-
-fn words_in(case: &[u8], text: &[u8], line: &mut [u8]) {
+    let (first, rest) = split_field(case);
+    let (second, rest) = split_field(rest);
+    let (third, rest) = split_field(rest);
+    let (fourth, rest) = split_field(rest);
+    let (fifth, rest) = split_field(rest);
+    let (last, _) = split_field(rest);
     let mut sorts = rooms::row_words();
     let mut fields = rooms::field_words();
     let mut variables = rooms::row_words();
     let mut functions = rooms::row_words();
     let mut members = rooms::row_words();
-    let zero = 0;
-    let second = replay::next_field(case, zero);
-    let third = replay::next_field(case, second);
-    let fourth = replay::next_field(case, third);
-    let fifth = replay::next_field(case, fourth);
-    let a = fields::put_words(case, zero, &mut sorts);
-    let b = fields::put_words(case, second, &mut fields);
-    let c = fields::put_words(case, third, &mut variables);
-    let d = fields::put_words(case, fourth, &mut functions);
-    let e = fields::put_words(case, fifth, &mut members);
+    let mut text = rooms::text_bytes();
+    let a = fields::put_words(first, &mut sorts);
+    let b = fields::put_words(second, &mut fields);
+    let c = fields::put_words(third, &mut variables);
+    let d = fields::put_words(fourth, &mut functions);
+    let e = fields::put_words(fifth, &mut members);
+    let count = fields::put_bytes(last, &mut text);
     let answer = tables::check_tables(
-        &sorts[zero..a],
-        &fields[zero..b],
-        &variables[zero..c],
-        &functions[zero..d],
-        &members[zero..e],
-        text,
+        &sorts[..a],
+        &fields[..b],
+        &variables[..c],
+        &functions[..d],
+        &members[..e],
+        &text[..count],
     );
     shows::check(answer, line);
 }
 
-// What is looked for, and the tables' text.
+// What is looked for, a letter and a field, and the tables' text.
 fn search(case: &[u8], line: &mut [u8]) {
+    let (_, rest) = split_field(case);
+    let (_, rest) = split_field(rest);
+    let (field, _) = split_field(rest);
     let mut text = rooms::text_bytes();
-    let zero = 0;
-    let second = replay::next_field(case, zero);
-    let count = fields::put_bytes(case, replay::next_field(case, second), &mut text);
-    search_in(case, &text[zero..count], line);
+    let count = fields::put_bytes(field, &mut text);
+    search_in(case, &text[..count], line);
 }
 
 fn search_in(case: &[u8], text: &[u8], line: &mut [u8]) {
@@ -158,65 +142,39 @@ fn search_in(case: &[u8], text: &[u8], line: &mut [u8]) {
         &mut functions,
         &mut members,
     );
-    let TablesRead::Read {
-        sorts: a,
-        fields: _,
-        variables: c,
-        functions: d,
-        members: e,
-    } = read
-    else {
-        return shows::row(Found::NoRow, line);
+    let Ok(counts) = read else {
+        return shows::row(None, line);
     };
-    let zero = 0;
-    let i = fields::least(a as u64, rooms::ROWS);
-    let k = fields::least(c as u64, rooms::ROWS);
-    let m = fields::least(d as u64, rooms::ROWS);
-    let n = fields::least(e as u64, rooms::ROWS);
-    let found = find(
-        case,
-        text,
-        &sorts[zero..i],
-        &variables[zero..k],
-        &functions[zero..m],
-        &members[zero..n],
-    );
-    shows::row(found, line);
+    let tables = Tables {
+        sorts: front(&sorts, counts.sorts),
+        fields: front(&fields, counts.fields),
+        variables: front(&variables, counts.variables),
+        functions: front(&functions, counts.functions),
+        members: front(&members, counts.members),
+    };
+    shows::row(find(case, text, tables), line);
 }
 
 // `v` `f` `m` a variable's, function's or enum member's name, `n` a sort's name, `s` a sort's kind and number.
-fn find(
-    case: &[u8],
-    names: &[u8],
-    sorts: &[u64],
-    variables: &[u64],
-    functions: &[u64],
-    members: &[u64],
-) -> Found {
-    if case.len() < 2 {
-        return Found::NoRow;
-    }
-    let zero = 0;
-    let second = 2;
-    let kind = case[0];
-    if kind == b's' {
-        let mut key = [0u64; 2];
-        fields::put_words(case, second, &mut key);
-        return tables::find_sort(sorts, wanted(key[0], key[1]));
-    }
+fn find(case: &[u8], names: &[u8], tables: Tables<'_>) -> Option<usize> {
+    let [kind, _, rest @ ..] = case else {
+        return None;
+    };
+    let (field, _) = split_field(rest);
+    let mut key = [0u64; 2];
     let mut room = [0u8; 64];
-    let count = fields::put_bytes(case, second, &mut room);
-    let name = &room[zero..count];
-    if kind == b'v' {
-        return tables::find_variable(variables, names, name);
+    if *kind == b's' {
+        fields::put_words(field, &mut key);
+        return tables::find_sort(tables.sorts, wanted(key[0], key[1]));
     }
-    if kind == b'f' {
-        return tables::find_function(functions, names, name);
+    let count = fields::put_bytes(field, &mut room);
+    let name = &room[..count];
+    match *kind {
+        b'v' => tables::find_variable(tables.variables, names, name),
+        b'f' => tables::find_function(tables.functions, names, name),
+        b'm' => tables::find_member(tables.members, names, name),
+        _ => tables::find_sort_name(tables.sorts, names, name),
     }
-    if kind == b'm' {
-        return tables::find_member(members, names, name);
-    }
-    tables::find_sort_name(sorts, names, name)
 }
 
 fn wanted(kind: u64, number: u64) -> Wanted {

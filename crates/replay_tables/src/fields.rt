@@ -1,25 +1,21 @@
 // The fields of a case: numbers, lists of words, and bytes.
 ghost use Rattle.std.specs.Prelude.{◌≤◌, length};
 
-use words::{Parsed, Radix};
+use words::Radix;
 
 // So much as is asked for, as far as there is so much.
 pub fn least(asked: u64, most: usize) -> usize
     ensures { result ≤ most }
 {
-    if most as u64 <= asked {
-        return most;
-    }
-    asked as usize
+    asked.min(most as u64) as usize
 }
 
-// The word that stands between two commas, behind those that are there; what is no number is none.
+// A word behind those that are there; what is no number is none.
 fn put_word(field: &[u8], out: &mut [u64], count: usize) -> usize
     requires { count ≤ length out.old }
     ensures { result ≤ length out.old }
 {
-    let found = words::parse(field, Radix::Hexadecimal);
-    let Parsed::Number(pair) = found else {
+    let Ok(pair) = words::parse(field, Radix::Hexadecimal) else {
         return count;
     };
     if out.len() <= count {
@@ -30,28 +26,14 @@ fn put_word(field: &[u8], out: &mut [u64], count: usize) -> usize
 }
 
 // The words of a list, commas between them; answers how many they are.
-fn put_list(list: &[u8], out: &mut [u64]) -> usize
+pub fn put_words(list: &[u8], out: &mut [u64]) -> usize
     ensures { result ≤ length out.old }
 {
     let mut count = 0;
-    let mut at = 0;
-    while at < list.len() {
-        let stop = replay::field_end(list, at, b',');
-        count = put_word(&list[at..stop], out, count);
-        at = stop + 1;
+    for word in list.split(|byte| *byte == b',') {
+        count = put_word(word, out, count);
     }
     count
-}
-
-// The words of the field at a place.
-pub fn put_words(case: &[u8], start: usize, out: &mut [u64]) -> usize
-    ensures { result ≤ length out.old }
-{
-    if case.len() <= start {
-        return 0;
-    }
-    let end = replay::field_end(case, start, b' ');
-    put_list(&case[start..end], out)
 }
 
 // The bytes from start on up to a place, again and again up to an end.
@@ -62,10 +44,8 @@ fn repeat(out: &mut [u8], start: usize, from: usize, end: usize)
         return;
     }
     let size = from - start;
-    let mut at = from;
-    while at < end {
+    for at in from..end {
         out[at] = out[at - size];
-        at += 1;
     }
 }
 
@@ -74,40 +54,23 @@ fn put_part(field: &[u8], out: &mut [u8], start: usize) -> usize
     requires { start ≤ length out.old }
     ensures { result ≤ length out.old }
 {
-    let zero = 0;
-    let star = replay::field_end(field, zero, b'*');
-    let count = replay::unhex(&field[zero..star], &mut out[start..]);
-    let from = start + count;
+    let star = replay::field_end(field, 0, b'*');
+    let from = start + replay::unhex(&field[..star], &mut out[start..]);
     if field.len() <= star {
         return from;
     }
-    let next = star + 1;
-    let end = start + least(replay::number(&field[next..]).low, out.len() - start);
+    let end = start + least(replay::number(&field[star + 1..]).low, out.len() - start);
     repeat(out, start, from, end);
     end
 }
 
 // The bytes of parts, points between them; answers how many they are.
-fn put_parts(parts: &[u8], out: &mut [u8]) -> usize
+pub fn put_bytes(parts: &[u8], out: &mut [u8]) -> usize
     ensures { result ≤ length out.old }
 {
     let mut count = 0;
-    let mut at = 0;
-    while at < parts.len() {
-        let stop = replay::field_end(parts, at, b'.');
-        count = put_part(&parts[at..stop], out, count);
-        at = stop + 1;
+    for part in parts.split(|byte| *byte == b'.') {
+        count = put_part(part, out, count);
     }
     count
-}
-
-// The bytes of the field at a place.
-pub fn put_bytes(case: &[u8], start: usize, out: &mut [u8]) -> usize
-    ensures { result ≤ length out.old }
-{
-    if case.len() <= start {
-        return 0;
-    }
-    let end = replay::field_end(case, start, b' ');
-    put_parts(&case[start..end], out)
 }

@@ -1,4 +1,5 @@
 // The rooms of a case: each has its own, marked, so that it shows what was written.
+// Stays: arrays of a fixed length, since a program has fixed memory and no heap.
 ghost use Rattle.std.specs.Prelude.{◌≡◌, length};
 
 // What stands in each lent word before a call.
@@ -13,14 +14,14 @@ pub const ROWS: usize = 5130;
 // Room for the fields of any text: each takes at least two bytes of it.
 pub const FIELDS: usize = 32768;
 
-// How many words there are for each table, or how many it has.
+// The words of the five tables.
 #[derive(Clone, Copy)]
-pub struct Words {
-    pub sorts: usize,
-    pub fields: usize,
-    pub variables: usize,
-    pub functions: usize,
-    pub members: usize,
+pub struct Tables<'a> {
+    pub sorts: &'a [u64],
+    pub fields: &'a [u64],
+    pub variables: &'a [u64],
+    pub functions: &'a [u64],
+    pub members: &'a [u64],
 }
 
 pub fn text_bytes() -> [u8; TEXT]
@@ -39,4 +40,9 @@ pub fn field_words() -> [u64; FIELDS]
     ensures { 32768 ≡ length result }
 {
     [MARK; FIELDS]
+}
+
+// So many words at the front, as far as there are so many.
+pub fn front(words: &[u64], count: usize) -> &[u64] {
+    &words[..count.min(words.len())]
 }

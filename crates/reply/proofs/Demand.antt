@@ -1,5 +1,6 @@
 -- Demand 3 holds of what is printed: where it is no refusal's lines, it is the listing of definitions for which the demand holds.
 -- Assumes nothing.
+use Rattle.std.proofs.Common.{Err, Ok, Result}
 use mathlib.Core.Path.{◌≡◌, refl, sym, ap, ◌∙◌, subst}
 use mathlib.Core.List.{List, [], map}
 use Prim.Native.Nat.{ℕ, ◌≤◌, ◌<◌}
@@ -10,8 +11,6 @@ use lib.Seq.{take_at}
 use borrow.Author.Tests.{le-leb, lt-leb, leb-true}
 use Rattle.ground.proofs.Tests.{by_order, both_right}
 use Rattle.refusals.specs.declared.Refusal.{Refusal}
-use Rattle.lent.specs.declared.Written.{Written}
-use Rattle.lent.specs.declared.Written.TheVariants.{Length, Refused}
 use Rattle.lent.specs.Left.{onto, Leaves}
 use Rattle.strings.proofs.Texts.{Bytes}
 use Rattle.arena.specs.Tree.{Tree, Sound}
@@ -20,7 +19,6 @@ use Rattle.reader.specs.Read.{parse}
 use Rattle.reader.proofs.Sounds.{accepted-arena}
 use Rattle.tables.specs.Sort.{Tables}
 use Rattle.tables_text.specs.Read.{Spells}
-use Rattle.sorts.specs.Result.{Result, ok, refused}
 use Rattle.well_sorted.proofs.Sound.{sound-octets}
 use Rattle.commands.specs.declared.form.Form.{Form}
 use Rattle.model.specs.Model.{Definition, read_reply}
@@ -43,7 +41,7 @@ pub record Listed (form : Form) (tables reply bytes : List ℕ) : Type 0 where
   pub parsed : parse reply ≡ tree of
   pub sound : Sound of
   pub definitions : List Definition
-  pub reads : read_reply over form of ≡ ok definitions
+  pub reads : read_reply over form of ≡ Ok definitions
   pub prints : bytes ≡ listing over definitions
   pub demand : Demanded form over of (map settled definitions)
 
@@ -55,9 +53,9 @@ pub data Printed (form : Form) (tables reply : List ℕ) (r : ℕ) (exit : List 
 
 module _ (form : Form) (tables reply entry : List ℕ) (bytes : Bytes reply) where
   module _ (n : ℕ) (left : List ℕ) where
-    tree-listed : (T : Tables) → Spells tables T → length reply ≤ byte_limit → (t : Tree) → parse reply ≡ tree t → (m : Result (List Definition)) → read_reply T form t ≡ m →
-        Leaves (listed.left T m entry) (Length n) left → Listed form tables reply (take n left)
-    tree-listed T s short t i (ok ds) e d =
+    tree-listed : (T : Tables) → Spells tables T → length reply ≤ byte_limit → (t : Tree) → parse reply ≡ tree t → (m : Result (List Definition) Refusal) → read_reply T form t ≡ m →
+        Leaves (listed.left T m entry) (Ok n) left → Listed form tables reply (take n left)
+    tree-listed T s short t i (Ok ds) e d =
         let sound = (accepted-arena reply t [] [] bytes (omega arith) i).sound in
         record {
           over = T;
@@ -70,9 +68,9 @@ module _ (form : Form) (tables reply entry : List ℕ) (bytes : Bytes reply) whe
           prints = (fronted (listing T ds) (need T ds) entry n left d).1;
           demand = demanded T s.lawful form t ds sound e;
         }
-    tree-listed T s short t i (refused why) e d = no_length d.answers
+    tree-listed T s short t i (Err why) e d = no_length d.answers
 
-    reply_listed : {rooms : _} → Replies form tables reply program_rooms entry (Length n) rooms left → Listed form tables reply (take n left)
+    reply_listed : {rooms : _} → Replies form tables reply program_rooms entry (Ok n) rooms left → Listed form tables reply (take n left)
     reply_listed (too_long a d x) = no_length d.answers
     reply_listed (bad-table a never d x) = no_length d.answers
     reply_listed (spelled a T s (unread why i d) x) = no_length d.answers
@@ -80,7 +78,7 @@ module _ (form : Form) (tables reply entry : List ℕ) (bytes : Bytes reply) whe
         tree-listed T s (leb-true (length reply) byte_limit (both_right (leb (length tables) byte_limit) (leb (length reply) byte_limit) a)) t i (read_reply T form t) refl d
 
   module _ (why : Refusal) (left : List ℕ) (r : ℕ) (exit : List ℕ) where
-    refusal_printed : Shows (shown (Refused why) left) r exit → Printed form tables reply r exit
+    refusal_printed : Shows (shown (Err why) left) r exit → Printed form tables reply r exit
     unfolding onto
     refusal_printed h =
         let lines = refusal_lines why in
@@ -97,16 +95,16 @@ module _ (form : Form) (tables reply entry : List ℕ) (bytes : Bytes reply) whe
   pub printed_demand : (r : ℕ) (exit : List ℕ) → Prints form tables reply entry r exit → Printed form tables reply r exit
   printed_demand r exit p = go p.answer p.lists.replies p.shows
     where
-      go : (w : Written) → Replies form tables reply program_rooms entry w p.lists.after p.left → Shows (shown w p.left) r exit → Printed form tables reply r exit
-      go (Length n) x h =
+      go : (w : Result ℕ Refusal) → Replies form tables reply program_rooms entry w p.lists.after p.left → Shows (shown w p.left) r exit → Printed form tables reply r exit
+      go (Ok n) x h =
           let e : take n p.left ≡ take r exit = ap (λ (k : ℕ). take k p.left) (sym h.counts) ∙ ap (take r) (sym h.holds) in
           a-listing (subst (Listed form tables reply) e (reply_listed n p.left x))
-      go (Refused why) x h = refusal_printed why p.left r exit h
+      go (Err why) x h = refusal_printed why p.left r exit h
 
 -- the bytes tell: two replies over the same tables that print the same listing define alike, whatever their forms
 pub printed_tell : {form other : Form} {tables reply reply' s : List ℕ} (a : Listed form tables reply s) (b : Listed other tables reply' s) → Alike a.over (map settled a.definitions) (map settled b.definitions)
 printed_tell {form} {other} {tables} {s = s} a b =
     let e : b.over ≡ a.over = one-spelled tables b.over a.over b.spells a.spells in
-    let r : read_reply a.over other b.of ≡ ok b.definitions = subst (λ (T : Tables). read_reply T other b.of ≡ ok b.definitions) e b.reads in
+    let r : read_reply a.over other b.of ≡ Ok b.definitions = subst (λ (T : Tables). read_reply T other b.of ≡ Ok b.definitions) e b.reads in
     let k : s ≡ listing a.over b.definitions = subst (λ (T : Tables). s ≡ listing T b.definitions) e b.prints in
     bytes-tell a.over a.spells.lawful form other a.of b.of a.definitions b.definitions (sound-octets a.of a.sound) (sound-octets b.of b.sound) a.reads r (sym a.prints ∙ k)

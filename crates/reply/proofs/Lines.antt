@@ -1,5 +1,6 @@
 -- A refusal's two lines, put piece after piece at the front of a lent buffer.
 -- Assumes nothing.
+use Rattle.std.proofs.Common.{Err}
 use mathlib.Core.Path.{◌≡◌, refl, sym, ap, ◌∙◌}
 use mathlib.Core.Bool.{cond}
 use mathlib.Core.List.{List, ◌++◌, append_assoc}
@@ -11,7 +12,6 @@ use borrow.Author.Tests.{le-leb, lt-leb}
 use Rattle.ground.specs.Bytes.{bytes}
 use Rattle.refusals.specs.declared.Refusal.{Refusal}
 use Rattle.refusals.specs.Number.{number_of, detail_of}
-use Rattle.lent.specs.declared.Written.TheVariants.{Refused}
 use Rattle.lent.specs.Left.{onto}
 use Rattle.lent.specs.Put.{Offers}
 use Rattle.lent.proofs.Offers.{offers_then, offers_as, offers_front}
@@ -59,12 +59,12 @@ module _ (why : Refusal) (n d i j : ℕ) (number : n ≡ number_of why) (detail 
       let q : j ≡ digit_count (detail_of why) = second ∙ ap (λ (k : ℕ). digit_count k) detail in
       omega (arith, lines_long why)
 
-  pub refusal-short : (out : List ℕ) → length out < 17 + i + j → Shows (shown (Refused why) out) 0 out
+  pub refusal-short : (out : List ℕ) → length out < 17 + i + j → Shows (shown (Err why) out) 0 out
   refusal-short out h = shows-none (refusal_lines why) out (omega (arith, need-so))
 
   pub refusal-put : {out a b c e exit : List ℕ} {one two three four r : ℕ} → 17 + i + j ≤ length out
       → Offers out a 0 (bytes "refused=") one → Offers a b one (decimal n) two → Offers b c two (bytes "\ndetail=") three → Offers c e three (decimal d) four → Offers e exit four (bytes "\n") r
-      → Shows (shown (Refused why) out) r exit
+      → Shows (shown (Err why) out) r exit
   refusal-put {out} {a} {b} {c} {e} {exit} {one} {two} {three} {four} {r} h p q s t u =
       let whole : Offers out exit 0 (pieces n d) r = offers_then (offers_then (offers_then (offers_then p q) s) t) u in
       let same : pieces n d ≡ refusal_lines why =

@@ -1,19 +1,17 @@
 -- What a tables' text and a reply come to is one: any two results that a contract allows are equal.
 -- Assumes nothing.
+use Rattle.std.proofs.Common.{Some, Err, Result}
 use mathlib.Core.Path.{◌≡◌, sym, ap, ◌∙◌, subst}
 use mathlib.Core.Bool.{true≢false}
 use mathlib.Core.List.{List}
-use mathlib.Core.Option.{some}
 use Prim.Native.Nat.{ℕ}
 use native.Mathlib.Omega.{arith}
 use Rattle.ground.proofs.Tests.{one-result}
 use Rattle.refusals.specs.declared.Refusal.{Refusal}
-use Rattle.lent.specs.declared.Written.{Written}
 use Rattle.lent.specs.Left.{Leaves, refusing}
 use Rattle.lent.proofs.Lefts.{one_left}
 use Rattle.arena.specs.Tree.{Tree}
 use Rattle.brackets.specs.Walk.{tree}
-use Rattle.reader.specs.declared.read.Reading.{Reading}
 use Rattle.reader.specs.Read.{written}
 use Rattle.tables.specs.Sort.{Tables}
 use Rattle.tables_text.specs.Parse.{parse}
@@ -29,22 +27,22 @@ use Rattle.reply.specs.Printed.{Shown, shown, Shows, Prints}
 -- a text spells one thing
 pub one-spelled : (s : List ℕ) (t u : Tables) → Spells s t → Spells s u → t ≡ u
 one-spelled s t u p q =
-    let a : parse s ≡ some t = ap parse p.same ∙ read_back t p.lawful p.writable in
-    let b : parse s ≡ some u = ap parse q.same ∙ read_back u q.lawful q.writable in
+    let a : parse s ≡ Some t = ap parse p.same ∙ read_back t p.lawful p.writable in
+    let b : parse s ≡ Some u = ap parse q.same ∙ read_back u q.lawful q.writable in
     some-equal (sym a ∙ b)
 
 module _ (form : Form) (T : Tables) (rooms : Rooms) (reply entry : List ℕ) where
-  one-walk : {r s : Written} {d e : List ℕ} → Walks form T rooms reply entry r d → Walks form T rooms reply entry s e → (r ≡ s) × (d ≡ e)
+  one-walk : {r s : Result ℕ Refusal} {d e : List ℕ} → Walks form T rooms reply entry r d → Walks form T rooms reply entry s e → (r ≡ s) × (d ≡ e)
   one-walk {r} {s} {d} {e} (unread why a p) (unread also b q) =
-      let k : Reading.Refused why ≡ Reading.Refused also = sym a ∙ b in
+      let k : Err why ≡ Err also = sym a ∙ b in
       let w : also ≡ why = cc in
       one_left p (subst (λ (x : Refusal). Leaves (refusing x entry) s e) w q)
   one-walk (unread why a p) (walked t i b q) =
-      let k : Reading.Refused why ≡ (written rooms.nodes rooms.text rooms.stack t).answer = sym a ∙ b in
+      let k : Err why ≡ (written rooms.nodes rooms.text rooms.stack t).answer = sym a ∙ b in
       let z : ◌≡◌ {A = ℕ} 0 1 = cc in
       absurd (omega arith)
   one-walk (walked t i b q) (unread why a p) =
-      let k : Reading.Refused why ≡ (written rooms.nodes rooms.text rooms.stack t).answer = sym a ∙ b in
+      let k : Err why ≡ (written rooms.nodes rooms.text rooms.stack t).answer = sym a ∙ b in
       let z : ◌≡◌ {A = ℕ} 0 1 = cc in
       absurd (omega arith)
   one-walk {r} {s} {d} {e} (walked t i a p) (walked u j b q) =
@@ -53,7 +51,7 @@ module _ (form : Form) (T : Tables) (rooms : Rooms) (reply entry : List ℕ) whe
       one_left p (subst (λ (x : Tree). Leaves (listing.left T (read_reply T form x) entry) s e) w q)
 
 module _ (form : Form) (tables reply : List ℕ) (rooms : Rooms) (entry : List ℕ) where
-  pub one_reply : {r s : Written} {x y : Rooms} {d e : List ℕ} → Replies form tables reply rooms entry r x d → Replies form tables reply rooms entry s y e → (r ≡ s) × (x ≡ y) × (d ≡ e)
+  pub one_reply : {r s : Result ℕ Refusal} {x y : Rooms} {d e : List ℕ} → Replies form tables reply rooms entry r x d → Replies form tables reply rooms entry s y e → (r ≡ s) × (x ≡ y) × (d ≡ e)
   one_reply (too_long a p x) (too_long b q y) = let k = one_left p q in (k.0, one-result x y, k.1)
   one_reply (too_long a p x) (bad-table b never q y) = absurd (true≢false (sym b ∙ a))
   one_reply (too_long a p x) (spelled b T s q y) = absurd (true≢false (sym b ∙ a))
@@ -74,7 +72,7 @@ pub one-print : (form : Form) (tables reply entry : List ℕ) {r s : ℕ} {d e :
 one-print form tables reply entry {r} {s} {d} {e} p q =
     let k = one_reply form tables reply program_rooms entry p.lists.replies q.lists.replies in
     let same : shown q.answer q.left ≡ shown p.answer p.left =
-    ap (λ (w : Written). shown w q.left) (sym k.0) ∙ ap (shown p.answer) (sym k.2) in (
+    ap (λ (w : Result ℕ Refusal). shown w q.left) (sym k.0) ∙ ap (shown p.answer) (sym k.2) in (
       one-result p.shows.counts (q.shows.counts ∙ ap (λ x. x.count) same),
       one-result p.shows.holds (q.shows.holds ∙ ap (λ x. x.holds) same),
     )

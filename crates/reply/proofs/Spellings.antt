@@ -1,9 +1,10 @@
 -- A tables' text in rooms of 1,024 rows and 32,768 fields: what it spells always has room there, and is lent on as it was laid.
 -- Assumes nothing.
+use Rattle.std.proofs.Common.{Err, Ok, Result}
 use mathlib.Core.Path.{◌≡◌, refl, sym, ap, ◌∙◌, subst}
 use mathlib.Core.Bool.{Bool, true, false, ◌&&◌}
 use mathlib.Core.List.{List, [], ◌∷◌, ◌++◌}
-use Prim.Native.Nat.{ℕ, ◌-◌, ◌*◌, ◌≤◌, ◌<◌}
+use Prim.Native.Nat.{ℕ, ◌*◌, ◌≤◌, ◌<◌}
 use native.Mathlib.Omega.{arith}
 use lib.Dec.{leb}
 use lib.ListN.{length, take, drop, length-append}
@@ -12,13 +13,11 @@ use borrow.Author.Tests.{le-leb, lt-leb}
 use Rattle.ground.proofs.Tests.{and-false}
 use Rattle.refusals.specs.declared.Refusal.{Refusal}
 use Rattle.refusals.specs.declared.Refusal.TheVariants.{InputTooLong, BadTable}
-use Rattle.lent.specs.declared.Written.{Written}
 use Rattle.lent.specs.Left.{onto}
 use Rattle.tables.specs.Sort.{Sort, Tables}
 use Rattle.tables.specs.Check.{passes}
 use Rattle.tables.specs.Layout.{Lent, tables_of}
 use Rattle.tables.proofs.Lawful.{lawful-parts}
-use Rattle.tables_text.specs.declared.read.TablesRead.{TablesRead}
 use Rattle.tables_text.specs.Line.{lines, written, sort_line, variable_line, function_line, member_line}
 use Rattle.tables_text.specs.Words.{fields_of, all_fields, variable_words, function_words, member_words, variables_at, functions_at, members_at, laid}
 use Rattle.tables_text.specs.Read.{text_limit, Spells, Buffers, stored, Reads}
@@ -32,6 +31,8 @@ use Rattle.tables_text.proofs.Readings.{passes-lawful, by-spelling}
 use Rattle.commands.specs.declared.form.Form.{Form}
 use Rattle.reply.specs.Reply.{byte_limit, within, Rooms, Walks, Replies}
 use Rattle.reply.specs.Read.{ReadsOn}
+use Rattle.tables_text.specs.declared.parse.Counts.{Counts}
+use Rattle.ground.proofs.Options.{ok-same}
 
 -- each field takes at least two bytes of its line
 fields-half : (ss : List Sort) → length (all_fields ss) * 2 ≤ length (lines sort_line ss)
@@ -79,11 +80,11 @@ module _ (tables reply : List ℕ) where
   both-short : length tables ≤ byte_limit → length reply ≤ byte_limit → within tables reply ≡ true
   both-short h k = ap (λ (b : Bool). b && leb (length reply) byte_limit) (le-leb (length tables) byte_limit h) ∙ le-leb (length reply) byte_limit k
 
-  pub refused-long : (form : Form) (rooms : Rooms) (out : List ℕ) → within tables reply ≡ false → Replies form tables reply rooms out (Written.Refused InputTooLong) rooms out
+  pub refused-long : (form : Form) (rooms : Rooms) (out : List ℕ) → within tables reply ≡ false → Replies form tables reply rooms out (Err InputTooLong) rooms out
   refused-long form rooms out h = Replies.too_long h (record { answers = refl; holds = refl }) refl
 
 -- what reading the text in those rooms leaves
-module _ (tables : List ℕ) (entry : Buffers) (r : TablesRead) (exit : Buffers) (d : Reads tables entry r exit) (short : length tables ≤ byte_limit) (roomy : Roomy entry) where
+module _ (tables : List ℕ) (entry : Buffers) (r : Result Counts Refusal) (exit : Buffers) (d : Reads tables entry r exit) (short : length tables ≤ byte_limit) (roomy : Roomy entry) where
   all-stored : (t : Tables) → Spells tables t → text.Leaves (stored entry (laid t tables)) r exit
   all-stored t s =
       let p = d.spelled short t s in
@@ -91,19 +92,19 @@ module _ (tables : List ℕ) (entry : Buffers) (r : TablesRead) (exit : Buffers)
       record { answers = p.answers ∙ sym q.answers; holds = p.holds ∙ sym q.holds }
 
   -- a refusal is of a text that spells nothing
-  pub nothing-spelled : (form : Form) (reply out : List ℕ) (rooms : Rooms) (why : Refusal) → length reply ≤ byte_limit → r ≡ TablesRead.Refused why → Replies form tables reply rooms out (Written.Refused why) rooms out
+  pub nothing-spelled : (form : Form) (reply out : List ℕ) (rooms : Rooms) (why : Refusal) → length reply ≤ byte_limit → r ≡ Err why → Replies form tables reply rooms out (Err why) rooms out
   nothing-spelled form reply out rooms why h e =
       by-spelling tables
       (λ t s.
-      let q : TablesRead.Refused why ≡ (stored entry (laid t tables)).answer = sym e ∙ (all-stored t s).answers in
+      let q : Err why ≡ (stored entry (laid t tables)).answer = sym e ∙ (all-stored t s).answers in
       let z : ◌≡◌ {A = ℕ} 0 1 = cc in
       absurd (omega arith))
       (λ never.
-      let q : TablesRead.Refused why ≡ TablesRead.Refused BadTable = sym e ∙ (d.other short never).answers in
+      let q : Err why ≡ Err BadTable = sym e ∙ (d.other short never).answers in
       let w : why ≡ BadTable = cc in
-      Replies.bad-table (both-short tables reply short h) never (record { answers = ap Written.Refused w; holds = refl }) refl)
+      Replies.bad-table (both-short tables reply short h) never (record { answers = ap Err w; holds = refl }) refl)
 
-  module _ (a b c e f : ℕ) (is : r ≡ TablesRead.Read a b c e f) where
+  module _ (a b c e f : ℕ) (is : r ≡ Ok (record { sorts = a; fields = b; variables = c; functions = e; members = f })) where
     record Held : Type 0 where
       of : Tables
       spells : Spells tables of
@@ -119,10 +120,11 @@ module _ (tables : List ℕ) (entry : Buffers) (r : TablesRead) (exit : Buffers)
         by-spelling tables
         (λ t s.
         let p = all-stored t s in
-        let q : TablesRead.Read a b c e f ≡ (stored entry (laid t tables)).answer = sym is ∙ p.answers in
-        record { of = t; spells = s; size_1 = cc; size_2 = cc; size_3 = cc; size_4 = cc; size_5 = cc; holds = p.holds })
+        let q : (Ok (record { sorts = a; fields = b; variables = c; functions = e; members = f })) ≡ (stored entry (laid t tables)).answer = sym is ∙ p.answers in
+        let u = ok-same q in
+        record { of = t; spells = s; size_1 = ap (λ (r : Counts). r.sorts) u; size_2 = ap (λ (r : Counts). r.fields) u; size_3 = ap (λ (r : Counts). r.variables) u; size_4 = ap (λ (r : Counts). r.functions) u; size_5 = ap (λ (r : Counts). r.members) u; holds = p.holds })
         (λ never.
-        let q : TablesRead.Read a b c e f ≡ TablesRead.Refused BadTable = sym is ∙ (d.other short never).answers in
+        let q : ◌≡◌ {A = Result Counts Refusal} (Ok (record { sorts = a; fields = b; variables = c; functions = e; members = f })) (Err BadTable) = sym is ∙ (d.other short never).answers in
         let z : ◌≡◌ {A = ℕ} 0 1 = cc in
         absurd (omega arith))
 
@@ -131,11 +133,10 @@ module _ (tables : List ℕ) (entry : Buffers) (r : TablesRead) (exit : Buffers)
     unfolding onto
     under n words room left p q = omega (arith, p, ap length q, length-append words (drop (length words) room))
 
-    front : (n : ℕ) (words room left : List ℕ) → n ≡ length words → left ≡ onto words room → take (n - 0) (drop 0 left) ≡ words
+    front : (n : ℕ) (words room left : List ℕ) → n ≡ length words → left ≡ onto words room → take n left ≡ words
     unfolding onto
     front n words room left p q =
-        let z : n - 0 ≡ length words = omega arith in
-        ap (λ (k : ℕ). take k left) z ∙ ap (take (length words)) q ∙ take-append_seam words (drop (length words) room)
+        ap (λ (k : ℕ). take k left) p ∙ ap (take (length words)) q ∙ take-append_seam words (drop (length words) room)
 
     pub under_1 : a ≤ length exit.sorts
     under_1 = let h = held in under a (laid h.of tables).sorts entry.sorts exit.sorts h.size_1 (ap (λ (x : Buffers). x.sorts) h.holds)
@@ -155,11 +156,11 @@ module _ (tables : List ℕ) (entry : Buffers) (r : TablesRead) (exit : Buffers)
     -- what is lent on
     abbrev lent : Lent
     lent = record {
-      sorts = take (a - 0) (drop 0 exit.sorts);
-      fields = take (b - 0) (drop 0 exit.fields);
-      variables = take (c - 0) (drop 0 exit.variables);
-      functions = take (e - 0) (drop 0 exit.functions);
-      members = take (f - 0) (drop 0 exit.members);
+      sorts = take a exit.sorts;
+      fields = take b exit.fields;
+      variables = take c exit.variables;
+      functions = take e exit.functions;
+      members = take f exit.members;
       names = tables;
     }
 
@@ -177,7 +178,7 @@ module _ (tables : List ℕ) (entry : Buffers) (r : TablesRead) (exit : Buffers)
         (front e (laid h.of tables).functions entry.functions exit.functions h.size_4 (ap (λ (x : Buffers). x.functions) h.holds))
         (front f (laid h.of tables).members entry.members exit.members h.size_5 (ap (λ (x : Buffers). x.members) h.holds))
 
-    pub spelled-walked : (form : Form) (reply out : List ℕ) (rooms after : Rooms) (answer : Written) (left : List ℕ) → length reply ≤ byte_limit → ReadsOn form lent reply rooms out answer after left → Replies form tables reply rooms out answer after left
+    pub spelled-walked : (form : Form) (reply out : List ℕ) (rooms after : Rooms) (answer : Result ℕ Refusal) (left : List ℕ) → length reply ≤ byte_limit → ReadsOn form lent reply rooms out answer after left → Replies form tables reply rooms out answer after left
     spelled-walked form reply out rooms after answer left h on =
         let k = held in
         let l : lent ≡ laid k.of tables = lent_laid k in

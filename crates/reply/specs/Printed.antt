@@ -1,9 +1,7 @@
 -- Document 01, "The listing", program `modellist`, and document 02, R-1, `valuelist`: a refusal prints `refused=N`, `detail=D`, a line each.
-use Rattle.std.specs.Prelude.{◌≡◌, cond, List, ◌++◌, ℕ, leb, length}
+use Rattle.std.specs.Prelude.{◌≡◌, cond, List, ◌++◌, ℕ, leb, length, Err, Ok, Result}
 use Rattle.refusals.specs.declared.Refusal.{Refusal}
 use Rattle.refusals.specs.Number.{number_of, detail_of}
-use Rattle.lent.specs.declared.Written.{Written}
-use Rattle.lent.specs.declared.Written.TheVariants.{Length, Refused}
 use Rattle.lent.specs.Left.{onto}
 use Rattle.decimals.specs.Decimal.{decimal}
 use Rattle.commands.specs.declared.form.Form.{Form}
@@ -19,9 +17,9 @@ pub record Shown : Type 0 where
   pub holds : List ℕ
 
 -- the listing that is there already, or the refusal's lines where they fit
-abbrev pub shown : Written → List ℕ → Shown
-shown (Length n) out = record { count = n; holds = out }
-shown (Refused why) out =
+abbrev pub shown : Result ℕ Refusal → List ℕ → Shown
+shown (Ok n) out = record { count = n; holds = out }
+shown (Err why) out =
     cond (leb (length (refusal_lines why)) (length out))
     (record { count = length (refusal_lines why); holds = onto (refusal_lines why) out })
     (record { count = 0; holds = out })
@@ -32,13 +30,13 @@ pub record Shows (what : Shown) (r : ℕ) (exit : List ℕ) : Type 0 where
   pub holds : exit ≡ what.holds
 
 -- what a tables' text and a reply come to in the program's rooms
-pub record Lists (form : Form) (tables reply entry : List ℕ) (r : Written) (exit : List ℕ) : Type 0 where
+pub record Lists (form : Form) (tables reply entry : List ℕ) (r : Result ℕ Refusal) (exit : List ℕ) : Type 0 where
   pub after : Rooms
   pub replies : Replies form tables reply program_rooms entry r after exit
 
 -- what they print
 pub record Prints (form : Form) (tables reply entry : List ℕ) (r : ℕ) (exit : List ℕ) : Type 0 where
-  pub answer : Written
+  pub answer : Result ℕ Refusal
   pub left : List ℕ
   pub lists : Lists form tables reply entry answer left
   pub shows : Shows (shown answer left) r exit

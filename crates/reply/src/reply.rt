@@ -4,11 +4,10 @@ ghost use Rattle.reply.specs.Reply.{Replies};
 ghost use Rattle.reply.specs.Read.{ReadsOn};
 
 use commands::Form;
-use lent::Written;
 use listing::list_form;
-use reader::{Reading, parse_sexpr};
+use reader::parse_sexpr;
 use refusals::Refusal;
-use tables_text::{TablesRead, read_tables};
+use tables_text::read_tables;
 
 // Of each of the two inputs.
 const LIMIT: usize = 65536;
@@ -41,20 +40,13 @@ fn list_text(
     text: &mut [u8],
     stack: &mut [u64],
     out: &mut [u8],
-) -> Written
+) -> Result<usize, Refusal>
     ensures { ReadsOn form (record { sorts = sorts.now; fields = fields.now; variables = variables.now; functions = functions.now; members = members.now; names = names.now }) reply.now (record { nodes = nodes.old; text = text.old; stack = stack.old }) out.old result (record { nodes = nodes.new; text = text.new; stack = stack.new }) out.new }
 {
-    let reading = parse_sexpr(reply, nodes, text, stack);
-    match reading {
-        Reading::Read {
-            nodes: _,
-            text: _,
-            depth: _,
-        } => list_form(
-            form, sorts, fields, variables, functions, members, names, nodes, text, out,
-        ),
-        Reading::Refused(why) => Written::Refused(why),
-    }
+    let _ = parse_sexpr(reply, nodes, text, stack)?;
+    list_form(
+        form, sorts, fields, variables, functions, members, names, nodes, text, out,
+    )
 }
 
 // The listing of a reply over the tables that a text spells, the tree in the rooms that are lent for it.
@@ -66,53 +58,41 @@ pub fn list_in(
     text: &mut [u8],
     stack: &mut [u64],
     out: &mut [u8],
-) -> Written
+) -> Result<usize, Refusal>
     ensures { Replies form tables.now reply.now (record { nodes = nodes.old; text = text.old; stack = stack.old }) out.old result (record { nodes = nodes.new; text = text.new; stack = stack.new }) out.new }
 {
     if LIMIT < tables.len() {
-        return Written::Refused(Refusal::InputTooLong);
+        return Err(Refusal::InputTooLong);
     }
     let long = reply.len();
     if LIMIT < long {
-        return Written::Refused(Refusal::InputTooLong);
+        return Err(Refusal::InputTooLong);
     }
     let mut sorts = row_words();
     let mut fields = field_words();
     let mut variables = row_words();
     let mut functions = row_words();
     let mut members = row_words();
-    let read = read_tables(
+    let rows = read_tables(
         tables,
         &mut sorts,
         &mut fields,
         &mut variables,
         &mut functions,
         &mut members,
-    );
-    match read {
-        TablesRead::Read {
-            sorts: a,
-            fields: b,
-            variables: c,
-            functions: d,
-            members: e,
-        } => {
-            let zero = 0;
-            list_text(
-                form,
-                &sorts[zero..a],
-                &fields[zero..b],
-                &variables[zero..c],
-                &functions[zero..d],
-                &members[zero..e],
-                tables,
-                reply,
-                nodes,
-                text,
-                stack,
-                out,
-            )
-        }
-        TablesRead::Refused(why) => Written::Refused(why),
-    }
+    )?;
+    list_text(
+        form,
+        &sorts[..rows.sorts],
+        &fields[..rows.fields],
+        &variables[..rows.variables],
+        &functions[..rows.functions],
+        &members[..rows.members],
+        tables,
+        reply,
+        nodes,
+        text,
+        stack,
+        out,
+    )
 }

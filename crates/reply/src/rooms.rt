@@ -5,8 +5,8 @@ ghost use Rattle.reply.specs.Printed.{Lists};
 
 use crate::reply::list_in;
 use commands::Form;
-use lent::Written;
 use reader::PROGRAM_WORDS;
+use refusals::Refusal;
 
 fn node_words() -> [u64; PROGRAM_WORDS]
     ensures { result ≡ replicate program_words 0 }
@@ -27,7 +27,7 @@ fn stack_words() -> [u64; 4096]
 }
 
 // The listing of a reply in the program's rooms.
-pub fn list_reply(form: Form, tables: &[u8], reply: &[u8], out: &mut [u8]) -> Written
+pub fn list_reply(form: Form, tables: &[u8], reply: &[u8], out: &mut [u8]) -> Result<usize, Refusal>
     ensures { Lists form tables.now reply.now out.old result out.new }
 {
     let mut nodes = node_words();

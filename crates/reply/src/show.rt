@@ -1,11 +1,10 @@
 // What is printed: the listing, or the two lines of a refusal.
-ghost use Rattle.lent.specs.declared.Written.{Written as Answer};
 ghost use Rattle.reply.specs.Printed.{Shows, shown, Prints};
 
 use crate::rooms::list_reply;
 use commands::Form;
 use decimals::digit_count;
-use lent::{Written, put};
+use lent::put;
 use refusals::Refusal;
 use value_text::write_number;
 
@@ -14,7 +13,7 @@ const WORDS: usize = 17;
 
 // The two lines of a refusal at the front, where there is room for them; answers how many bytes.
 pub fn put_refusal(why: Refusal, out: &mut [u8]) -> usize
-    ensures { Shows (shown (Answer.Refused why) out.old) result out.new }
+    ensures { Shows (shown (Err why) out.old) result out.new }
 {
     let number = why.number();
     let detail = why.detail() as u64;
@@ -35,7 +34,7 @@ pub fn print_reply(form: Form, tables: &[u8], reply: &[u8], out: &mut [u8]) -> u
 {
     let answer = list_reply(form, tables, reply, out);
     match answer {
-        Written::Length(count) => count,
-        Written::Refused(why) => put_refusal(why, out),
+        Ok(count) => count,
+        Err(why) => put_refusal(why, out),
     }
 }

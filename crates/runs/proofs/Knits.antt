@@ -257,17 +257,16 @@ module _ (last : Bool) (a s₀ s : List ℕ) (i j w : ℕ) (h : Knitting last a 
 -- ---- weave
 
 pub woven : (last : Bool) (k : ℕ) (s scratch scratch' exit : List ℕ) (r n : ℕ) → (k ≤ length s) × (k ≤ length scratch)
-    → Fronts (take (k - 0) (drop 0 s)) scratch scratch' n → Knitted last (take (k - 0) (drop 0 scratch')) s exit r → Merged last k s exit r
+    → Fronts (take k s) scratch scratch' n → Knitted last (take k scratch') s exit r → Merged last k s exit r
 unfolding onto
 woven last k s scratch scratch' exit r n h f t =
-    let z : k - 0 ≡ k = omega arith in
-    let lk : length (take (k - 0) s) ≡ k = length-take-le (k - 0) s (omega (arith, h.0)) ∙ z in
-    let same : take (k - 0) scratch' ≡ take (k - 0) s = ap (take (k - 0)) f.holds ∙ take_at (take (k - 0) s) (drop (length (take (k - 0) s)) scratch) (k - 0) (lk ∙ sym z) in
-    let t2 : Knitted last (take (k - 0) s) s exit r = subst (λ (l : List ℕ). Knitted last l s exit r) same t in
+    let lk : length (take k s) ≡ k = length-take-le k s (omega (arith, h.0)) in
+    let same : take k scratch' ≡ take k s = ap (take k) f.holds ∙ take_at (take k s) (drop (length (take k s)) scratch) k lk in
+    let t2 : Knitted last (take k s) s exit r = subst (λ (l : List ℕ). Knitted last l s exit r) same t in
     record {
       within = t2.within;
       made = λ whole two.
-          let q : take (k - 0) s ≡ run two.us = ap (take (k - 0)) two.parts ∙ take_at (run two.us) (run two.bs) (k - 0) (sym two.seam ∙ sym z) in
+          let q : take k s ≡ run two.us = ap (take k) two.parts ∙ take_at (run two.us) (run two.bs) k (sym two.seam) in
           t2.made whole (record {
             us = two.us;
             bs = two.bs;

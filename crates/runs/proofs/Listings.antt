@@ -20,7 +20,7 @@ use Rattle.order.proofs.Arranges.{every-arranged, ascends_arranged, map_keys}
 use Rattle.runs.specs.Run.{key, run, plain}
 use Rattle.runs.specs.Piece.{piece, pieces, cell, key_at}
 use Rattle.runs.specs.Place.{Plain, Ended}
-use Rattle.runs.specs.Merge.{Tried}
+use Rattle.runs.specs.Merge.{Sorted}
 use Rattle.runs.specs.Pair.{pairs, places, base, reach}
 use Rattle.runs.specs.Index.{starts, Settled, Listed, Wrote}
 use Rattle.runs.proofs.Pairs.{pairs-long, pairs-front}
@@ -154,13 +154,10 @@ module _ (last : Bool) (s index₀ index index' : List ℕ) (n p n' e : ℕ) (h 
     passed = λ rs ok is. let q = h.passed rs ok is in next rs ok is q.us q.vs q.parts q.place q.taken;
   }
 
-pub listing_full : (last : Bool) (s index : List ℕ) → Listed last s index 0
-listing_full last s index = record { within = omega arith; holds = λ z. absurd (z refl) }
-
 pub listing-end : (last : Bool) (s index₀ index : List ℕ) (n p : ℕ) → Listing last s index₀ index n p → length s ≤ p → Listed last s (pairs index) n
 listing-end last s index₀ index n p h l = record {
   within = h.room;
-  holds = λ z rs ok is.
+  holds = λ rs ok is.
       let q = h.passed rs ok is in
       let b = q.place in
       let v : q.vs ≡ [] = run_none q.vs (omega (arith, ap length (is ∙ ap run q.parts), run-both q.us q.vs)) in
@@ -240,9 +237,6 @@ module _ (s : List ℕ) (n : ℕ) (out₀ out out' : List ℕ) (w i p next : ℕ
             ∙ ap (pieces s) (sym (ap (λ (k : ℕ). take k (pairs out₀)) (add-one i) ∙ take-suc (pairs out₀) i 0 (omega (arith, pairs-long out₀, h.long))));
       }
 
-pub writing-full : (s : List ℕ) (n : ℕ) (out₀ out : List ℕ) (w i : ℕ) → Writing s n out₀ out w i → Wrote s out₀ n out 0
-writing-full s n out₀ out w i h = let b = h.least in let f = h.fits in record { within = omega arith; holds = λ z. absurd (z refl) }
-
 pub writing-end : (s : List ℕ) (n : ℕ) (out₀ out : List ℕ) (w i : ℕ) → Writing s n out₀ out w i → n ≤ i → Wrote s out₀ n out (w - base)
 writing-end s n out₀ out w i h l =
     let a = h.within in
@@ -252,17 +246,14 @@ writing-end s n out₀ out w i h l =
     let k : w ≡ base + (w - base) = omega arith in
     let behind : drop base (take w out) ≡ take (w - base) (drop base out) =
     ap (λ (j : ℕ). drop base (take j out)) k ∙ ap (drop base) (take-add base (w - base) out) ∙ drop_at (take base out) (take (w - base) (drop base out)) base (length-take-le base out (omega arith)) in
-    record { within = omega arith; holds = λ z. sym behind ∙ h.holds ∙ ap (λ (j : ℕ). pieces s (take j (pairs out₀))) e }
+    record { within = omega arith; holds = sym behind ∙ h.holds ∙ ap (λ (j : ℕ). pieces s (take j (pairs out₀))) e }
 
--- ---- the returns of try_short
+-- ---- the return of try_short
 
-pub tried-not : (last : Bool) (s : List ℕ) → Tried last s s 0
-tried-not last s = record { within = omega arith; not = λ z. refl; made = λ z. absurd (z refl) }
-
-pub tried : (last : Bool) (s index scratch exit : List ℕ) (n w r : ℕ) → Listed last s (pairs index) n → (n ≡ 0 → ⊥) → Wrote s index n scratch w → w ≤ length s
-    → Fronts (take (base + w - base) (drop base scratch)) s exit r → Tried last s exit r
+pub tried : (last : Bool) (s index scratch exit : List ℕ) (n w r : ℕ) → Listed last s (pairs index) n → Wrote s index n scratch w → w ≤ length s
+    → Fronts (take (base + w - base) (drop base scratch)) s exit r → Sorted last s exit r
 unfolding onto
-tried last s index scratch exit n w r l some o fit f =
+tried last s index scratch exit n w r l o fit f =
     let written : List ℕ = take w (drop base scratch) in
     let text : take (base + w - base) (drop base scratch) ≡ written = ap (λ (k : ℕ). take k (drop base scratch)) (let e : base + w - base ≡ w = omega arith in e) in
     let many : length written ≡ w = length-take-le w (drop base scratch) (omega (arith, o.within, length-drop base scratch)) in
@@ -270,10 +261,8 @@ tried last s index scratch exit n w r l some o fit f =
     let whole : exit ≡ written ++ drop w s = f.holds ∙ ap (λ (x : List ℕ). x ++ drop (length x) s) text ∙ ap (λ (k : ℕ). written ++ drop k s) many in
     record {
       within = omega arith;
-      not = λ z. whole ∙ ap (λ (k : ℕ). take k (drop base scratch) ++ drop k s) (sym long ∙ z);
-      made = λ z rs ok is.
-          let e : written ≡ run (arranged key last rs) =
-          o.holds (λ y. z (long ∙ y)) ∙ ap (pieces s) (l.holds some rs ok is) ∙ pieces-run last s rs ok is in
+      made = λ rs ok is.
+          let e : written ≡ run (arranged key last rs) = o.holds ∙ ap (pieces s) (l.holds rs ok is) ∙ pieces-run last s rs ok is in
           record {
             long = long ∙ sym many ∙ ap length e;
             bytes = ap (λ (k : ℕ). take k exit) long ∙ ap (take w) whole ∙ take_at written (drop w s) w many ∙ e;

@@ -17,7 +17,7 @@ use Rattle.runs.specs.Run.{key, run, plain}
 use Rattle.runs.specs.Arrange.{ArrangedAs}
 use Rattle.runs.specs.Piece.{piece}
 use Rattle.runs.specs.Place.{Plain, Halved}
-use Rattle.runs.specs.Merge.{Front, Merged, Sorted, Tried}
+use Rattle.runs.specs.Merge.{Front, Merged, Sorted}
 use Rattle.runs.proofs.Runs.{run-nil, run-append, run_long, run_none, cut_at, piece-at}
 use Rattle.runs.proofs.Splits.{part-two, three-room, drawn, drawn-within, drawn-exit}
 
@@ -38,22 +38,19 @@ sorted_none last s z = record {
       record { long = sym (ap length w); bytes = sym w };
 }
 
-pub sorted-short : (last : Bool) (s exit : List ℕ) (r : ℕ) → Tried last s exit r → (r ≡ 0 → ⊥) → Sorted last s exit r
-sorted-short last s exit r t n = record { within = t.within; made = t.made n }
-
 -- what is tried and not done leaves the list as it was
-sorted-from : (last : Bool) (s v exit : List ℕ) (r : ℕ) → v ≡ s → Sorted last v exit r → Sorted last s exit r
+pub sorted-from : (last : Bool) (s v exit : List ℕ) (r : ℕ) → v ≡ s → Sorted last v exit r → Sorted last s exit r
 sorted-from last s v exit r e h = subst (λ (x : List ℕ). Sorted last x exit r) e h
 
-pub sorted-one : (last : Bool) (s v : List ℕ) (short k : ℕ) → (length s ≡ 0 → ⊥) → Tried last s v short → short ≡ 0 → Halved v (length v) k → k ≡ 0 → Sorted last s v (length v)
-sorted-one last s v short k some t z h one =
-    sorted-from last s v v (length v) (t.not z) (record {
+pub sorted-one : (last : Bool) (s v : List ℕ) (k : ℕ) → (length s ≡ 0 → ⊥) → v ≡ s → Halved v (length v) k → k ≡ 0 → Sorted last s v (length v)
+sorted-one last s v k some e h one =
+    sorted-from last s v v (length v) e (record {
       within = omega arith;
       made = λ rs ok is. go rs ok is;
     })
   where
     go : (rs : List (List ℕ)) → Plain rs → v ≡ run rs → Front v (length v) (run (arranged key last rs))
-    go [] ok is = absurd (some (sym (ap length (t.not z)) ∙ ap length is ∙ ap length run-nil))
+    go [] ok is = absurd (some (sym (ap length e) ∙ ap length is ∙ ap length run-nil))
     go (x ∷ xs) ok is =
         let long : length (piece v) ≡ suc (length x) = ap length (piece-at v 0 x xs [] (every-head (λ r. plain r ≡ true) x xs ok) (is ∙ sym (append-nil (run (x ∷ xs))))) ∙ length-append x (0 ∷ []) ∙ omega arith in
         let e : xs ≡ [] = run_none xs (omega (arith, h.one one, ap length is, run_long x xs)) in
@@ -62,56 +59,54 @@ sorted-one last s v short k some t z h one =
 
 -- ---- two parts
 
-pub left-falls : (v : List ℕ) (k t n : ℕ) → Halved v (length v) k → length v ≡ n → n ≡ t → length (take (k - 0) v) < t
-left-falls v k t n h e f = let a = h.less in omega (arith, length-take-le (k - 0) v (omega arith))
+pub left-falls : (v : List ℕ) (k t n : ℕ) → Halved v (length v) k → length v ≡ n → n ≡ t → length (take k v) < t
+left-falls v k t n h e f = let a = h.less in omega (arith, length-take-le k v (omega arith))
 
-pub right-falls : (v L : List ℕ) (k t n : ℕ) → Halved v (length v) k → (k ≡ 0 → ⊥) → length v ≡ n → n ≡ t → length L ≡ length (take (k - 0) v)
-    → length (take (length (L ++ drop (k - 0) v) - k) (drop k (L ++ drop (k - 0) v))) < t
+pub right-falls : (v L : List ℕ) (k t n : ℕ) → Halved v (length v) k → (k ≡ 0 → ⊥) → length v ≡ n → n ≡ t → length L ≡ length (take k v)
+    → length (take (length (L ++ drop k v) - k) (drop k (L ++ drop k v))) < t
 right-falls v L k t n h some e f len =
     let a = h.less in
-    let ll : length L ≡ k = len ∙ length-take-le (k - 0) v (omega arith) ∙ omega arith in
-    let d : drop k (L ++ drop (k - 0) v) ≡ drop (k - 0) v = drop_at L (drop (k - 0) v) k ll in
-    let lt : length (L ++ drop (k - 0) v) ≡ length v = length-append L (drop (k - 0) v) ∙ omega (arith, length-drop (k - 0) v) in
-    omega (arith, ap length (take_all (length (L ++ drop (k - 0) v) - k) (drop k (L ++ drop (k - 0) v)) (omega (arith, ap length d, length-drop (k - 0) v)) ∙ d), length-drop (k - 0) v)
+    let ll : length L ≡ k = len ∙ length-take-le k v (omega arith) in
+    let d : drop k (L ++ drop k v) ≡ drop k v = drop_at L (drop k v) k ll in
+    let lt : length (L ++ drop k v) ≡ length v = length-append L (drop k v) ∙ omega (arith, length-drop k v) in
+    omega (arith, ap length (take_all (length (L ++ drop k v) - k) (drop k (L ++ drop k v)) (omega (arith, ap length d, length-drop k v)) ∙ d), length-drop k v)
 
-module _ (last : Bool) (v L Z : List ℕ) (k m n : ℕ) (h : Halved v (length v) k) (len-l : length L ≡ length (take (k - 0) v)) (one : Sorted last (take (k - 0) v) L m)
-    (len-z : length Z ≡ length (take (length (L ++ drop (k - 0) v) - k) (drop k (L ++ drop (k - 0) v))))
-    (other : Sorted last (take (length (L ++ drop (k - 0) v) - k) (drop k (L ++ drop (k - 0) v))) Z n) where
+module _ (last : Bool) (v L Z : List ℕ) (k m n : ℕ) (h : Halved v (length v) k) (len-l : length L ≡ length (take k v)) (one : Sorted last (take k v) L m)
+    (len-z : length Z ≡ length (take (length (L ++ drop k v) - k) (drop k (L ++ drop k v))))
+    (other : Sorted last (take (length (L ++ drop k v) - k) (drop k (L ++ drop k v))) Z n) where
   within : k ≤ length v
   within = let a = h.less in omega arith
 
   fit_m : m ≤ k
-  fit_m = let w = within in omega (arith, one.within, length-take-le (k - 0) v (omega arith))
+  fit_m = let w = within in omega (arith, one.within, length-take-le k v (omega arith))
 
   fit_n : n ≤ length Z
   fit_n = omega (arith, other.within)
 
-  pub sorted-room : (m ≤ k) × (k + n ≤ length (put_mid k (length (L ++ drop (k - 0) v) - k) (L ++ drop (k - 0) v) Z))
+  pub sorted-room : (m ≤ k) × (k + n ≤ length (put_mid k (length (L ++ drop k v) - k) (L ++ drop k v) Z))
   sorted-room = three-room v L Z [] k m n 0 within len-l len-z fit_m fit_n
 
-  module _ (w : List ℕ) (e : ℕ) (p : Puts (put_mid k (length (L ++ drop (k - 0) v) - k) (L ++ drop (k - 0) v) Z) w m (take n (drop k (put_mid k (length (L ++ drop (k - 0) v) - k) (L ++ drop (k - 0) v) Z))) e) where
+  module _ (w : List ℕ) (e : ℕ) (p : Puts (put_mid k (length (L ++ drop k v) - k) (L ++ drop k v) Z) w m (take n (drop k (put_mid k (length (L ++ drop k v) - k) (L ++ drop k v) Z))) e) where
     pub sorted-within : e ≤ length w
     sorted-within = omega (arith, drawn-within v L Z w k m n e within len-l len-z fit_m fit_n p, drawn-exit v L Z w k m n e within len-l len-z fit_m fit_n p)
 
     pub sorted-long : length w ≡ length v
     sorted-long = drawn-exit v L Z w k m n e within len-l len-z fit_m fit_n p
 
-    pub sorted-kept : (M s : List ℕ) → length v ≡ length s → length M ≡ length (take (e - 0) w) → length (M ++ drop (e - 0) w) ≡ length s
-    sorted-kept M s q len = length_front w M (e - 0) len ∙ sorted-long ∙ q
+    pub sorted-kept : (M s : List ℕ) → length v ≡ length s → length M ≡ length (take e w) → length (M ++ drop e w) ≡ length s
+    sorted-kept M s q len = length_front w M e len ∙ sorted-long ∙ q
 
-    module _ (M : List ℕ) (r : ℕ) (len-m : length M ≡ length (take (e - 0) w)) (g : Merged last m (take (e - 0) w) M r) where
-      short : length (take (e - 0) w) ≡ e
-      short = let fit = sorted-within in length-take-le (e - 0) w (omega arith) ∙ omega arith
+    module _ (M : List ℕ) (r : ℕ) (len-m : length M ≡ length (take e w)) (g : Merged last m (take e w) M r) where
+      short : length (take e w) ≡ e
+      short = let fit = sorted-within in length-take-le e w (omega arith)
 
       -- the records of the two parts, arranged and merged
-      joined : (rs us vs : List (List ℕ)) → Plain rs → v ≡ run rs → rs ≡ us ++ vs → k ≡ 0 + length (run us) → Front (M ++ drop (e - 0) w) r (run (arranged key last rs))
+      joined : (rs us vs : List (List ℕ)) → Plain rs → v ≡ run rs → rs ≡ us ++ vs → k ≡ 0 + length (run us) → Front (M ++ drop e w) r (run (arranged key last rs))
       joined rs us vs ok is parts place =
           let both : v ≡ run us ++ run vs = is ∙ ap run parts ∙ run-append us vs in
           let at-k : length (run us) ≡ k = omega (arith, place) in
-          let z0 : k - 0 ≡ k = omega arith in
-          let ze : e - 0 ≡ e = omega arith in
-          let p1 : take (k - 0) v ≡ run us = ap (take (k - 0)) both ∙ take_at (run us) (run vs) (k - 0) (at-k ∙ sym z0) in
-          let p2 : take (length (L ++ drop (k - 0) v) - k) (drop k (L ++ drop (k - 0) v)) ≡ run vs =
+          let p1 : take k v ≡ run us = ap (take k) both ∙ take_at (run us) (run vs) k at-k in
+          let p2 : take (length (L ++ drop k v) - k) (drop k (L ++ drop k v)) ≡ run vs =
           part-two v L Z w k m n e within len-l len-z fit_m ∙ ap (drop k) both ∙ drop_at (run us) (run vs) k at-k in
           let ok-us : Plain us = every-left (λ r. plain r ≡ true) us vs (subst Plain parts ok) in
           let ok-vs : Plain vs = every-right (λ r. plain r ≡ true) us vs (subst Plain parts ok) in
@@ -124,13 +119,13 @@ module _ (last : Bool) (v L Z : List ℕ) (k m n : ℕ) (h : Halved v (length v)
             plain-bs = every-arranged key last (λ r. plain r ≡ true) vs ok-vs;
             rise-us = ascends_arranged key last us;
             rise-bs = ascends_arranged key last vs;
-            parts = ap (λ (j : ℕ). take j w) ze ∙ drawn v L Z w k m n e within len-l len-z fit_m fit_n p ∙ ap (λ (x : List ℕ). x ++ take n Z) f1.bytes ∙ ap (λ (x : List ℕ). run (arranged key last us) ++ x) f2.bytes;
+            parts = drawn v L Z w k m n e within len-l len-z fit_m fit_n p ∙ ap (λ (x : List ℕ). x ++ take n Z) f1.bytes ∙ ap (λ (x : List ℕ). run (arranged key last us) ++ x) f2.bytes;
             seam = f1.long;
             makes = ap run (sym (ap (arranged key last) parts ∙ arranged-append key last us vs));
           }) in
-          record { long = f.long; bytes = take-append-le r M (drop (e - 0) w) (let gw = g.within in omega (arith, len-m)) ∙ f.bytes }
+          record { long = f.long; bytes = take-append-le r M (drop e w) (let gw = g.within in omega (arith, len-m)) ∙ f.bytes }
 
-      pub sorted-two : Sorted last v (M ++ drop (e - 0) w) r
+      pub sorted-two : Sorted last v (M ++ drop e w) r
       sorted-two = record {
         within = let fit = sorted-within in let lw = sorted-long in let l1 = short in let gw = g.within in omega arith;
         made = λ rs ok is.
@@ -138,9 +133,6 @@ module _ (last : Bool) (v L Z : List ℕ) (k m n : ℕ) (h : Halved v (length v)
             let c = cut_at v 0 k rs [] ok (is ∙ sym (append-nil (run rs))) (omega arith) (omega (arith, ap length is)) h.edge in
             joined rs c.ones c.twos ok is c.parts c.place;
       }
-
-pub sorted-both : (last : Bool) (s v exit : List ℕ) (short r : ℕ) → Tried last s v short → short ≡ 0 → Sorted last v exit r → Sorted last s exit r
-sorted-both last s v exit short r t z h = sorted-from last s v exit r (t.not z) h
 
 -- ---- arrange
 

@@ -1,11 +1,11 @@
 -- The piece at the front of any bytes, and of a run; and the loops that look for a record's end and its beginning.
 -- Assumes nothing.
-use mathlib.Core.Path.{◌≡◌, refl, ap, ◌∙◌}
+use mathlib.Core.Path.{◌≡◌, refl, ap, sym, ◌∙◌, subst}
 use mathlib.Core.Bool.{Bool, true, cond}
 use mathlib.Core.List.{List, [], ◌∷◌, ◌++◌}
 use Prim.Native.Nat.{ℕ, suc, ◌+◌, ◌-◌, ◌/◌, ◌≤◌, ◌<◌}
 use native.Mathlib.Omega.{arith}
-use lib.ListN.{length, get_or, drop, drop_of_length-le, length-drop}
+use lib.ListN.{length, get_or, drop, drop_of_length-le, length-drop, take}
 use lib.Dec.{eqb}
 use borrow.Author.Tests.{eq-eqb, ne_eqb, eqb-true, eqb-false}
 use Rattle.ground.proofs.Tests.{by_test}
@@ -85,8 +85,22 @@ sofar-next s p i h l e = record { within = omega arith; same = omega (arith, h.s
 pub sofar-last : (s : List ℕ) (p i : ℕ) → Sofar s p i → i < length s → get_or s i 0 ≡ 0 → Ended s p (i + 1)
 sofar-last s p i h l e = record { same = omega (arith, h.same, ap length (piece-at-end s i l e)); within = omega arith }
 
-pub sofar-end : (s : List ℕ) (p i : ℕ) → Sofar s p i → length s ≤ i → Ended s p i
-sofar-end s p i h l = record { same = omega (arith, h.same, ap length (piece-past s i l)); within = h.within }
+pub sofar-end : (s : List ℕ) (p i : ℕ) → Sofar s p i → length s ≤ i → Ended s p (length s)
+sofar-end s p i h l = let w = h.within in record { same = omega (arith, h.same, ap length (piece-past s i l)); within = omega arith }
+
+-- the bytes up to the place after a record are its piece
+pub piece_taken : (l : List ℕ) → take (length (piece l)) l ≡ piece l
+unfolding piece
+piece_taken [] = sym piece-nil
+piece_taken (b ∷ bs) =
+    by_test (eqb b 0)
+    (λ e. let p = piece-end b bs (eqb-true b 0 e) in ap (λ (x : List ℕ). take (length x) (b ∷ bs)) p ∙ sym p)
+    (λ e. let p = piece_byte b bs (eqb-false b 0 e) in ap (λ (x : List ℕ). take (length x) (b ∷ bs)) p ∙ ap (λ (x : List ℕ). b ∷ x) (piece_taken bs) ∙ sym p)
+
+pub ended-taken : (s : List ℕ) (p r : ℕ) → Ended s p r → take (r - p) (drop p s) ≡ piece (drop p s)
+ended-taken s p r h =
+    let k : r - p ≡ length (piece (drop p s)) = omega (arith, h.same) in
+    ap (λ (n : ℕ). take n (drop p s)) k ∙ piece_taken (drop p s)
 
 pub ended-more : (s : List ℕ) (p r : ℕ) → Ended s p r → p < length s → p < r
 ended-more s p r h l = omega (arith, h.same, piece-some (drop p s) (omega (arith, length-drop p s)))
@@ -123,11 +137,17 @@ seeking_next s from at p h l e =
       reach = λ k. let z = h.reach k in omega (arith, ap length q, ap length r);
     }
 
-pub seeking_found : (s : List ℕ) (from at p : ℕ) → Seeking s from at p → get_or s (p - 1) 0 ≡ 0 → Begun s from at p
-seeking_found s from at p h e = record { least = h.least; most = h.most; edge = λ l. e; reach = h.reach }
+pub seeking_found : (s : List ℕ) (from at p : ℕ) → Seeking s from at p → from < p → get_or s (p - 1) 0 ≡ 0 → Begun s from at (p - 1 + 1)
+seeking_found s from at p h l e =
+    let b : Begun s from at p = record { least = h.least; most = h.most; edge = λ k. e; reach = h.reach } in
+    subst (Begun s from at) (sym (down p (omega arith))) b
 
-pub seeking_end : (s : List ℕ) (from at p : ℕ) → Seeking s from at p → p ≤ from → Begun s from at p
-seeking_end s from at p h l = record { least = h.least; most = h.most; edge = λ k. absurd (omega arith); reach = h.reach }
+pub seeking_end : (s : List ℕ) (from at p : ℕ) → Seeking s from at p → p ≤ from → Begun s from at from
+seeking_end s from at p h l =
+    let m = h.least in
+    let e : p ≡ from = omega arith in
+    let b : Begun s from at p = record { least = m; most = h.most; edge = λ k. absurd (omega arith); reach = h.reach } in
+    subst (Begun s from at) e b
 
 -- ---- the parts of half
 

@@ -47,39 +47,38 @@ put-long s R p n h e =
 -- ---- two parts of a list, each of which leaves a front, the second drawn to the first
 
 -- L is what the first b bytes became, Z what the others became
-module _ (s L Z exit : List ℕ) (b m n r : ℕ) (within : b ≤ length s) (len-l : length L ≡ length (take (b - 0) s))
-    (len-z : length Z ≡ length (take (length (L ++ drop (b - 0) s) - b) (drop b (L ++ drop (b - 0) s)))) (fit_m : m ≤ b) where
+module _ (s L Z exit : List ℕ) (b m n r : ℕ) (within : b ≤ length s) (len-l : length L ≡ length (take b s))
+    (len-z : length Z ≡ length (take (length (L ++ drop b s) - b) (drop b (L ++ drop b s)))) (fit_m : m ≤ b) where
   long_l : length L ≡ b
-  long_l = len-l ∙ length-take-le (b - 0) s (omega arith) ∙ omega arith
+  long_l = len-l ∙ length-take-le b s (omega arith)
 
   two : List ℕ
-  two = L ++ drop (b - 0) s
+  two = L ++ drop b s
 
-  long-two : length (L ++ drop (b - 0) s) ≡ length s
-  long-two = length-append L (drop (b - 0) s) ∙ omega (arith, long_l, length-drop (b - 0) s)
+  long-two : length (L ++ drop b s) ≡ length s
+  long-two = length-append L (drop b s) ∙ omega (arith, long_l, length-drop b s)
 
-  pub part-two : take (length (L ++ drop (b - 0) s) - b) (drop b (L ++ drop (b - 0) s)) ≡ drop b s
+  pub part-two : take (length (L ++ drop b s) - b) (drop b (L ++ drop b s)) ≡ drop b s
   part-two =
-      let e : drop b (L ++ drop (b - 0) s) ≡ drop (b - 0) s = drop_at L (drop (b - 0) s) b long_l in
-      let z : b - 0 ≡ b = omega arith in
-      take_all (length (L ++ drop (b - 0) s) - b) (drop b (L ++ drop (b - 0) s)) (omega (arith, ap length e, length-drop (b - 0) s, long-two)) ∙ e ∙ ap (λ (k : ℕ). drop k s) z
+      let e : drop b (L ++ drop b s) ≡ drop b s = drop_at L (drop b s) b long_l in
+      take_all (length (L ++ drop b s) - b) (drop b (L ++ drop b s)) (omega (arith, ap length e, length-drop b s, long-two)) ∙ e
 
-  three-is : put_mid b (length (L ++ drop (b - 0) s) - b) (L ++ drop (b - 0) s) Z ≡ L ++ Z
+  three-is : put_mid b (length (L ++ drop b s) - b) (L ++ drop b s) Z ≡ L ++ Z
   three-is =
-      let e : length (L ++ drop (b - 0) s) - b ≡ length (drop (b - 0) s) = omega (arith, length-append L (drop (b - 0) s), long_l) in
-      mid-put (L ++ drop (b - 0) s) L (drop (b - 0) s) [] b (length (L ++ drop (b - 0) s) - b) (ap (λ (x : List ℕ). L ++ x) (sym (append-nil (drop (b - 0) s)))) (sym long_l) e Z
+      let e : length (L ++ drop b s) - b ≡ length (drop b s) = omega (arith, length-append L (drop b s), long_l) in
+      mid-put (L ++ drop b s) L (drop b s) [] b (length (L ++ drop b s) - b) (ap (λ (x : List ℕ). L ++ x) (sym (append-nil (drop b s)))) (sym long_l) e Z
       ∙ ap (λ (x : List ℕ). L ++ x) (append-nil Z)
 
-  pub three-long : length (put_mid b (length (L ++ drop (b - 0) s) - b) (L ++ drop (b - 0) s) Z) ≡ length s
+  pub three-long : length (put_mid b (length (L ++ drop b s) - b) (L ++ drop b s) Z) ≡ length s
   three-long = ap length three-is ∙ length-append L Z ∙ omega (arith, long_l, len-z, ap length part-two, length-drop b s)
 
   module _ (fit_n : n ≤ length Z) where
-    pub three-room : (m ≤ b) × (b + n ≤ length (put_mid b (length (L ++ drop (b - 0) s) - b) (L ++ drop (b - 0) s) Z))
+    pub three-room : (m ≤ b) × (b + n ≤ length (put_mid b (length (L ++ drop b s) - b) (L ++ drop b s) Z))
     three-room = (fit_m, omega (arith, three-long, len-z, ap length part-two, length-drop b s))
 
-    module _ (p : Puts (put_mid b (length (L ++ drop (b - 0) s) - b) (L ++ drop (b - 0) s) Z) exit m
-        (take n (drop b (put_mid b (length (L ++ drop (b - 0) s) - b) (L ++ drop (b - 0) s) Z))) r) where
-      second_is : take n (drop b (put_mid b (length (L ++ drop (b - 0) s) - b) (L ++ drop (b - 0) s) Z)) ≡ take n Z
+    module _ (p : Puts (put_mid b (length (L ++ drop b s) - b) (L ++ drop b s) Z) exit m
+        (take n (drop b (put_mid b (length (L ++ drop b s) - b) (L ++ drop b s) Z))) r) where
+      second_is : take n (drop b (put_mid b (length (L ++ drop b s) - b) (L ++ drop b s) Z)) ≡ take n Z
       second_is = ap (λ (x : List ℕ). take n (drop b x)) three-is ∙ ap (take n) (drop_at L Z b long_l)
 
       pub drawn-long : r ≡ m + n
@@ -94,8 +93,8 @@ module _ (s L Z exit : List ℕ) (b m n r : ℕ) (within : b ≤ length s) (len-
       pub drawn : take r exit ≡ take m L ++ take n Z
       drawn =
           piece-front p (omega (arith, drawn-within, three-long))
-          ∙ ap (λ (x : List ℕ). take m x ++ take n (drop b (put_mid b (length (L ++ drop (b - 0) s) - b) (L ++ drop (b - 0) s) Z))) three-is
-          ∙ ap (λ (x : List ℕ). x ++ take n (drop b (put_mid b (length (L ++ drop (b - 0) s) - b) (L ++ drop (b - 0) s) Z))) (take-append-le m L Z (omega (arith, long_l)))
+          ∙ ap (λ (x : List ℕ). take m x ++ take n (drop b (put_mid b (length (L ++ drop b s) - b) (L ++ drop b s) Z))) three-is
+          ∙ ap (λ (x : List ℕ). x ++ take n (drop b (put_mid b (length (L ++ drop b s) - b) (L ++ drop b s) Z))) (take-append-le m L Z (omega (arith, long_l)))
           ∙ ap (λ (x : List ℕ). take m L ++ x) second_is
 
 -- ---- the parts of a merge
@@ -113,23 +112,23 @@ module _ (s R : List ℕ) (k h q : ℕ) (less : k < length s) (hv : Halved s k h
   pub seam-within : h + (q - k) ≤ length (put_mid h (q - h) s R)
   seam-within = let a = hv.less in omega (arith, turned-long)
 
-  pub first-falls : (t : ℕ) → length s ≡ t → length (take (h + (q - k) - 0) (put_mid h (q - h) s R)) < t
-  first-falls t e = let z = seam-less in let w = seam-within in omega (arith, length-take-le (h + (q - k) - 0) (put_mid h (q - h) s R) (omega arith))
+  pub first-falls : (t : ℕ) → length s ≡ t → length (take (h + (q - k)) (put_mid h (q - h) s R)) < t
+  first-falls t e = let z = seam-less in let w = seam-within in omega (arith, length-take-le (h + (q - k)) (put_mid h (q - h) s R) (omega arith))
 
-  pub second-falls : (t : ℕ) (L : List ℕ) → length s ≡ t → (h + (q - k) ≡ 0 → ⊥) → length L ≡ length (take (h + (q - k) - 0) (put_mid h (q - h) s R))
-      → length (take (length (L ++ drop (h + (q - k) - 0) (put_mid h (q - h) s R)) - (h + (q - k))) (drop (h + (q - k)) (L ++ drop (h + (q - k) - 0) (put_mid h (q - h) s R)))) < t
+  pub second-falls : (t : ℕ) (L : List ℕ) → length s ≡ t → (h + (q - k) ≡ 0 → ⊥) → length L ≡ length (take (h + (q - k)) (put_mid h (q - h) s R))
+      → length (take (length (L ++ drop (h + (q - k)) (put_mid h (q - h) s R)) - (h + (q - k))) (drop (h + (q - k)) (L ++ drop (h + (q - k)) (put_mid h (q - h) s R)))) < t
   second-falls t L e some len =
       let w = seam-within in
       let z = seam-less in
       let p = long-at (put_mid h (q - h) s R) L (h + (q - k)) w len in
       omega (arith, p, turned-long)
     where
-      long-at : (v L : List ℕ) (b : ℕ) → b ≤ length v → length L ≡ length (take (b - 0) v) → length (take (length (L ++ drop (b - 0) v) - b) (drop b (L ++ drop (b - 0) v))) ≡ length v - b
+      long-at : (v L : List ℕ) (b : ℕ) → b ≤ length v → length L ≡ length (take b v) → length (take (length (L ++ drop b v) - b) (drop b (L ++ drop b v))) ≡ length v - b
       long-at v L b w len =
-          let ll : length L ≡ b = len ∙ length-take-le (b - 0) v (omega arith) ∙ omega arith in
-          let e : drop b (L ++ drop (b - 0) v) ≡ drop (b - 0) v = drop_at L (drop (b - 0) v) b ll in
-          let lt : length (L ++ drop (b - 0) v) ≡ length v = length-append L (drop (b - 0) v) ∙ omega (arith, length-drop (b - 0) v) in
-          ap length (take_all (length (L ++ drop (b - 0) v) - b) (drop b (L ++ drop (b - 0) v)) (omega (arith, ap length e, length-drop (b - 0) v)) ∙ e) ∙ length-drop (b - 0) v ∙ omega arith
+          let ll : length L ≡ b = len ∙ length-take-le b v (omega arith) in
+          let e : drop b (L ++ drop b v) ≡ drop b v = drop_at L (drop b v) b ll in
+          let lt : length (L ++ drop b v) ≡ length v = length-append L (drop b v) ∙ omega (arith, length-drop b v) in
+          ap length (take_all (length (L ++ drop b v) - b) (drop b (L ++ drop b v)) (omega (arith, ap length e, length-drop b v)) ∙ e) ∙ length-drop b v
 
 -- the records of a merge in two parts
 record Quarters (last : Bool) (s : List ℕ) (k h q : ℕ) (whole : List ℕ) : Type 0 where
@@ -244,31 +243,31 @@ module _ (s U W B C R : List ℕ) (k h q : ℕ) (is : s ≡ U ++ (W ++ (B ++ C))
   len_b : length (U ++ B) ≡ h + (q - k)
   len_b = length-append U B ∙ omega arith
 
-  first_part : take (h + (q - k) - 0) (put_mid h (q - h) s R) ≡ U ++ B
-  first_part = ap (take (h + (q - k) - 0)) one-is ∙ take_at (U ++ B) (W ++ C) (h + (q - k) - 0) (len_b ∙ omega arith)
+  first_part : take (h + (q - k)) (put_mid h (q - h) s R) ≡ U ++ B
+  first_part = ap (take (h + (q - k))) one-is ∙ take_at (U ++ B) (W ++ C) (h + (q - k)) len_b
 
   second-part : drop (h + (q - k)) (put_mid h (q - h) s R) ≡ W ++ C
   second-part = ap (drop (h + (q - k))) one-is ∙ drop_at (U ++ B) (W ++ C) (h + (q - k)) len_b
 
 pub merged-room : (last : Bool) (s R L Z : List ℕ) (k h q m n : ℕ) → k < length s → Halved s k h → Lower s h k q
     → length R ≡ length (take (q - h) (drop h s))
-    → length L ≡ length (take (h + (q - k) - 0) (put_mid h (q - h) s R)) → Merged last h (take (h + (q - k) - 0) (put_mid h (q - h) s R)) L m
-    → (let two = L ++ drop (h + (q - k) - 0) (put_mid h (q - h) s R) in
+    → length L ≡ length (take (h + (q - k)) (put_mid h (q - h) s R)) → Merged last h (take (h + (q - k)) (put_mid h (q - h) s R)) L m
+    → (let two = L ++ drop (h + (q - k)) (put_mid h (q - h) s R) in
     length Z ≡ length (take (length two - (h + (q - k))) (drop (h + (q - k)) two)) → Merged last (k - h) (take (length two - (h + (q - k))) (drop (h + (q - k)) two)) Z n
     → (m ≤ h + (q - k)) × (h + (q - k) + n ≤ length (put_mid (h + (q - k)) (length two - (h + (q - k))) two Z)))
 merged-room last s R L Z k h q m n less hv lw len-r len-l one len-z other =
     let v = put_mid h (q - h) s R in
     let b = h + (q - k) in
     let within = seam-within s R k h q less hv lw.least lw.within len-r in
-    let long-1 : length (take (b - 0) v) ≡ b = length-take-le (b - 0) v (omega arith) ∙ omega arith in
+    let long-1 : length (take b v) ≡ b = length-take-le b v (omega arith) in
     let fit_m : m ≤ b = omega (arith, one.within) in
     let fit_n : n ≤ length Z = omega (arith, other.within) in
     three-room v L Z [] b m n 0 within len-l len-z fit_m fit_n
 
 pub merged : (last : Bool) (s R L Z exit : List ℕ) (k h q m n r : ℕ) → k < length s → Halved s k h → Lower s h k q
     → length R ≡ length (take (q - h) (drop h s)) → R ≡ drop (k - h) (take (q - h) (drop h s)) ++ take (k - h) (take (q - h) (drop h s))
-    → length L ≡ length (take (h + (q - k) - 0) (put_mid h (q - h) s R)) → Merged last h (take (h + (q - k) - 0) (put_mid h (q - h) s R)) L m
-    → (let two = L ++ drop (h + (q - k) - 0) (put_mid h (q - h) s R) in
+    → length L ≡ length (take (h + (q - k)) (put_mid h (q - h) s R)) → Merged last h (take (h + (q - k)) (put_mid h (q - h) s R)) L m
+    → (let two = L ++ drop (h + (q - k)) (put_mid h (q - h) s R) in
     length Z ≡ length (take (length two - (h + (q - k))) (drop (h + (q - k)) two)) → Merged last (k - h) (take (length two - (h + (q - k))) (drop (h + (q - k)) two)) Z n
     → Puts (put_mid (h + (q - k)) (length two - (h + (q - k))) two Z) exit m (take n (drop (h + (q - k)) (put_mid (h + (q - k)) (length two - (h + (q - k))) two Z))) r
     → Merged last k s exit r)
@@ -277,7 +276,7 @@ merged last s R L Z exit k h q m n r less hv lw len-r turn len-l one len-z other
     let b = h + (q - k) in
     let within = seam-within s R k h q less hv lw.least lw.within len-r in
     let long-v = turned-long s R k h q less hv lw.least lw.within len-r in
-    let long-1 : length (take (b - 0) v) ≡ b = length-take-le (b - 0) v (omega arith) ∙ omega arith in
+    let long-1 : length (take b v) ≡ b = length-take-le b v (omega arith) in
     let fit_m : m ≤ b = omega (arith, one.within) in
     let fit_n : n ≤ length Z = omega (arith, other.within) in
     let d = drawn v L Z exit b m n r within len-l len-z fit_m fit_n p in
@@ -287,7 +286,7 @@ merged last s R L Z exit k h q m n r less hv lw len-r turn len-l one len-z other
       within = omega arith;
       made = λ whole two.
           let z = quarters last s k h q whole hv lw two in
-          let f1 : take (b - 0) v ≡ run z.us ++ run z.bs = first_part s (run z.us) (run z.vs) (run z.bs) (run z.cs) R k h q z.parts z.at_h z.at-k z.at_q turn in
+          let f1 : take b v ≡ run z.us ++ run z.bs = first_part s (run z.us) (run z.vs) (run z.bs) (run z.cs) R k h q z.parts z.at_h z.at-k z.at_q turn in
           let f2 : drop b v ≡ run z.vs ++ run z.cs = second-part s (run z.us) (run z.vs) (run z.bs) (run z.cs) R k h q z.parts z.at_h z.at-k z.at_q turn in
           let g1 = one.made (run (inserts key last z.us z.bs)) (subst (λ (x : List ℕ). Two last x h (run (inserts key last z.us z.bs))) (sym f1) z.first) in
           let g2 = other.made (run (inserts key last z.vs z.cs)) (subst (λ (x : List ℕ). Two last x (k - h) (run (inserts key last z.vs z.cs))) (sym (pt ∙ f2)) z.second) in

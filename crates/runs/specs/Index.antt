@@ -28,12 +28,12 @@ pub record Settled (last : Bool) (s entry exit : List ℕ) (n p r : ℕ) : Type 
   pub within : r ≤ n + 1
   pub holds : Ascends (key_at s) (take n entry) → take r exit ≡ inserts (key_at s) last (take n entry) (p ∷ [])
 
--- all places of a run's records, arranged, or 0 where the index has no room
+-- all places of a run's records, arranged, so many
 pub record Listed (last : Bool) (s exit : List ℕ) (r : ℕ) : Type 0 where
   pub within : r ≤ places
-  pub holds : (r ≡ 0 → ⊥) → (rs : List (List ℕ)) → Plain rs → s ≡ run rs → take r exit ≡ arranged (key_at s) last (starts 0 rs)
+  pub holds : (rs : List (List ℕ)) → Plain rs → s ≡ run rs → take r exit ≡ arranged (key_at s) last (starts 0 rs)
 
--- the pieces at the first n places of a buffer, written behind all places, or 0 where there is no room
+-- the pieces at the first n places of a buffer, written behind all places, so many bytes
 pub record Wrote (s entry : List ℕ) (n : ℕ) (exit : List ℕ) (r : ℕ) : Type 0 where
   pub within : base + r ≤ length exit
-  pub holds : (r ≡ 0 → ⊥) → take r (drop base exit) ≡ pieces s (take n (pairs entry))
+  pub holds : take r (drop base exit) ≡ pieces s (take n (pairs entry))

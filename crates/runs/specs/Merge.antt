@@ -1,5 +1,5 @@
 -- Document 01, "The listing": what making one run of two leaves, and what bringing one into order leaves.
-use Rattle.std.specs.Prelude.{◌≡◌, Bool, true, false, List, ◌++◌, ℕ, ◌+◌, ◌≤◌, ◌<◌, length, take, drop}
+use Rattle.std.specs.Prelude.{◌≡◌, Bool, true, false, List, ◌++◌, ℕ, ◌+◌, ◌≤◌, ◌<◌, length, take, drop, Option, Some, None}
 use Rattle.order.specs.Order.{arranged}
 use Rattle.order.specs.Merge.{inserts}
 use Rattle.order.specs.Every.{Ascends}
@@ -71,7 +71,6 @@ pub record Sorted (last : Bool) (entry exit : List ℕ) (r : ℕ) : Type 0 where
   pub made : (rs : List (List ℕ)) → Plain rs → entry ≡ run rs → Front exit r (run (arranged key last rs))
 
 -- the same, or nothing done
-pub record Tried (last : Bool) (entry exit : List ℕ) (r : ℕ) : Type 0 where
-  pub within : r ≤ length entry
-  pub not : r ≡ 0 → exit ≡ entry
-  pub made : (r ≡ 0 → ⊥) → (rs : List (List ℕ)) → Plain rs → entry ≡ run rs → Front exit r (run (arranged key last rs))
+abbrev pub Tried : Bool → List ℕ → List ℕ → Option ℕ → Type 0
+Tried last entry exit None = exit ≡ entry
+Tried last entry exit (Some r) = Sorted last entry exit r

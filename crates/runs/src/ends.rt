@@ -12,14 +12,12 @@ pub fn after(s: &[u8], p: usize) -> usize
     requires { p ≤ length s.now }
     ensures { Ended s.now p result }
 {
-    let mut i = p;
-    while i < s.len() {
+    for i in p..s.len() {
         if s[i] == END {
             return i + 1;
         }
-        i += 1;
     }
-    i
+    s.len()
 }
 
 // The place where the record that holds the byte at `at` begins, found by going back to the end before it.
@@ -27,17 +25,16 @@ pub fn begin(s: &[u8], from: usize, at: usize) -> usize
     requires { (from ≤ at) × (at ≤ length s.now) }
     ensures { Begun s.now from at result }
 {
-    let mut p = at;
-    while from < p {
-        if s[p - 1] == END {
-            return p;
+    for i in (from..at).rev() {
+        if s[i] == END {
+            return i + 1;
         }
-        p -= 1;
     }
-    p
+    from
 }
 
 // A place inside the first k bytes where a record begins, near the middle; 0 where they are one record.
+// Stays: a plain place in place of an Option, since 0 is a place too, where the first record begins, and `merge` splits there.
 pub fn half(s: &[u8], k: usize) -> usize
     requires { (0 < k) × (k ≤ length s.now) }
     ensures { Halved s.now k result }

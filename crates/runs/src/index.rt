@@ -1,5 +1,5 @@
 // Short runs, brought into order by the places of their records.
-ghost use Rattle.std.specs.Prelude.{◌<◌, ◌≤◌, length};
+ghost use Rattle.std.specs.Prelude.{◌<◌, ◌≤◌, length, IfSome};
 ghost use Rattle.runs.specs.Index.{Found, Inserted, Settled, Listed, Wrote};
 ghost use Rattle.runs.specs.Merge.{Tried};
 ghost use Rattle.runs.specs.Pair.{pairs, places, base, reach};
@@ -42,14 +42,8 @@ fn insert(index: &mut [u8], at: usize, n: usize, p: usize)
     requires { (at ≤ n) × (n < length (pairs index.old)) × (p < reach) }
     ensures { Inserted (pairs index.old) (pairs index.new) at n p }
 {
-    let mut i = at;
-    let mut carried = p;
-    while i <= n {
-        let next = place(index, i);
-        set_place(index, i, carried);
-        carried = next;
-        i += 1;
-    }
+    index.copy_within(2 * at..2 * n, 2 * at + 2);
+    set_place(index, at, p);
 }
 
 // The place p put among the first n by its key; answers how many there are then.
@@ -58,79 +52,61 @@ fn settle(s: &[u8], index: &mut [u8], n: usize, p: usize, last: bool) -> usize
     ensures { Settled last s.now (pairs index.old) (pairs index.new) n p result }
 {
     let at = find(s, index, n, p);
-    if at < n {
-        if below(s, p, place(index, at)) {
-            insert(index, at, n, p);
-            return n + 1;
-        }
-        if last {
-            set_place(index, at, p);
-            return n;
-        }
-        return n;
+    if n <= at || below(s, p, place(index, at)) {
+        insert(index, at, n, p);
+        return n + 1;
     }
-    insert(index, at, n, p);
-    n + 1
+    if last {
+        set_place(index, at, p);
+    }
+    n
 }
 
-// The places of all records by their keys, one of each key; answers how many, or 0 where the index has no room.
-fn list(s: &[u8], index: &mut [u8], last: bool) -> usize
+// The places of all records by their keys, one of each key; answers how many, where the index has room.
+fn list(s: &[u8], index: &mut [u8], last: bool) -> Option<usize>
     requires { (length s.now ≤ reach) × (base ≤ length index.old) }
-    ensures { Listed last s.now (pairs index.new) result }
+    ensures { IfSome result (λ n. Listed last s.now (pairs index.new) n) }
 {
     let mut n = 0;
     let mut p = 0;
     while p < s.len() {
         if PLACES <= n {
-            return 0;
+            return None;
         }
         n = settle(s, index, n, p, last);
         p = after(s, p);
     }
-    n
+    Some(n)
 }
 
-// The records at the first n places, one after the other behind the index; answers how many bytes, or 0 where there is no room.
-fn write(out: &mut [u8], s: &[u8], n: usize) -> usize
+// The records at the first n places, one after the other behind the index; answers how many bytes, where there is room.
+fn write(out: &mut [u8], s: &[u8], n: usize) -> Option<usize>
     requires { (n ≤ places) × (base ≤ length out.old) }
-    ensures { Wrote s.now out.old n out.new result }
+    ensures { IfSome result (λ r. Wrote s.now out.old n out.new r) }
 {
     let mut w: usize = BASE;
-    let mut i = 0;
-    while i < n {
+    for i in 0..n {
         let p = place(out, i);
-        if s.len() < p {
-            return 0;
-        }
-        if out.len() - w < s.len() - p {
-            return 0;
+        if s.len() < p || out.len() - w < s.len() - p {
+            return None;
         }
         w = lay(out, w, s, p);
-        i += 1;
     }
-    w - BASE
+    Some(w - BASE)
 }
 
-// A short run brought into order at its front, where the scratch has room for an index and for its records; answers how many bytes, or 0 where it
-// is not short or there is no room, and stays.
-pub fn try_short(s: &mut [u8], scratch: &mut [u8], last: bool) -> usize
+// A short run brought into order at its front, where the scratch has room for an index and for its records; answers how many bytes. Where it is not
+// short or there is no room, it stays.
+pub fn try_short(s: &mut [u8], scratch: &mut [u8], last: bool) -> Option<usize>
     ensures { Tried last s.old s.new result }
 {
-    if SHORT < s.len() {
-        return 0;
+    if SHORT < s.len() || scratch.len() < BASE + s.len() {
+        return None;
     }
-    if scratch.len() < BASE + s.len() {
-        return 0;
-    }
-    let n = list(s, scratch, last);
-    if n == 0 {
-        return 0;
-    }
-    let w = write(scratch, s, n);
+    let n = list(s, scratch, last)?;
+    let w = write(scratch, s, n)?;
     if s.len() < w {
-        return 0;
+        return None;
     }
-    let from = BASE;
-    let to = from + w;
-    lent::copy(&scratch[from..to], s)
+    Some(lent::copy(&scratch[BASE..BASE + w], s))
 }

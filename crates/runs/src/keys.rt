@@ -11,17 +11,14 @@ pub const STOP: u8 = 10;
 fn mark(s: &[u8], i: usize) -> u8
     ensures { result ≡ mark (drop i s.now) }
 {
-    if s.len() <= i {
-        return 0;
+    match s.get(i) {
+        Some(byte) if *byte != STOP => *byte,
+        _ => 0,
     }
-    let b = s[i];
-    if b == STOP {
-        return 0;
-    }
-    b
 }
 
 // The place up to which the key at p of the one has the bytes of the key at q of the other; a byte up to the stop may end them.
+// Stays: a loop over two places, since nothing says that p and q lie inside: a zip of the two rests has to test both first, and counts its bytes too.
 fn past_same(a: &[u8], p: usize, b: &[u8], q: usize) -> usize
     ensures { Skipped a.now b.now p q result }
 {
@@ -44,6 +41,8 @@ fn past_same(a: &[u8], p: usize, b: &[u8], q: usize) -> usize
 }
 
 // Whether the key at p of the one is before the key at q of the other.
+// Stays: a loop over two places, since a key that ends counts as 0 there: no range has an end that both keys reach, and a slice of each key would be
+// searched for its end before the first byte is compared.
 pub fn less(a: &[u8], p: usize, b: &[u8], q: usize) -> bool
     ensures { result ≡ before (key_at a.now p) (key_at b.now q) }
 {

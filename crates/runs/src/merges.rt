@@ -55,10 +55,7 @@ fn knit(s: &mut [u8], a: &[u8], last: bool) -> usize
         if s.len() <= j {
             return lent::put(&a[i..], s, w);
         }
-        let t = turn(s, a, i, j, w, last);
-        i = t.a;
-        j = t.b;
-        w = t.to;
+        Places { a: i, b: j, to: w } = turn(s, a, i, j, w, last);
     }
     let n = s.len() - j;
     moves::draw(s, w, j, n)
@@ -69,9 +66,8 @@ fn weave(s: &mut [u8], k: usize, scratch: &mut [u8], last: bool) -> usize
     requires { (k ≤ length s.old) × (k ≤ length scratch.old) }
     ensures { Merged last k s.old s.new result }
 {
-    let zero = 0;
-    lent::copy(&s[zero..k], scratch);
-    knit(s, &scratch[zero..k], last)
+    lent::copy(&s[..k], scratch);
+    knit(s, &scratch[..k], last)
 }
 
 // Two runs that meet in one key, the first one's last at p and the second's first at k: one of the two is closed up.
@@ -92,17 +88,14 @@ fn meet(s: &mut [u8], p: usize, k: usize, last: bool) -> usize
 pub fn merge(s: &mut [u8], k: usize, scratch: &mut [u8], last: bool) -> usize
     ensures { Merged last k s.old s.new result }
 {
-    if k == 0 {
-        return s.len();
-    }
-    if s.len() <= k {
+    if k == 0 || s.len() <= k {
         return s.len();
     }
     let p = begin(s, 0, k - 1);
     if below(s, p, k) {
         return s.len();
     }
-    if below(s, k, p) {} else {
+    if !below(s, k, p) {
         return meet(s, p, k, last);
     }
     if k <= scratch.len() {
@@ -115,8 +108,7 @@ pub fn merge(s: &mut [u8], k: usize, scratch: &mut [u8], last: bool) -> usize
     if b == 0 {
         return s.len();
     }
-    let zero = 0;
-    let m = merge(&mut s[zero..b], h, scratch, last);
+    let m = merge(&mut s[..b], h, scratch, last);
     let n = merge(&mut s[b..], k - h, scratch, last);
     moves::draw(s, m, b, n)
 }

@@ -14,19 +14,17 @@ fn sort(s: &mut [u8], scratch: &mut [u8], last: bool) -> usize
     if s.len() == 0 {
         return 0;
     }
-    let short = try_short(s, scratch, last);
-    if short != 0 {
-        return short;
+    if let Some(n) = try_short(s, scratch, last) {
+        return n;
     }
     let k = half(s, s.len());
     if k == 0 {
         return s.len();
     }
-    let zero = 0;
-    let m = sort(&mut s[zero..k], scratch, last);
+    let m = sort(&mut s[..k], scratch, last);
     let n = sort(&mut s[k..], scratch, last);
     let e = moves::draw(s, m, k, n);
-    merge(&mut s[zero..e], m, scratch, last)
+    merge(&mut s[..e], m, scratch, last)
 }
 
 // The records of a run in order by their keys, one of each key, closed up, with 0 behind; answers how many bytes. The scratch may have any length.

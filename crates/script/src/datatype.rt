@@ -9,8 +9,9 @@ ghost use Rattle.parts.specs.Parts.{parts, ends_right};
 ghost use Rattle.script.specs.Line.{constructor_list, parametric, datatype_line, declare_datatype};
 ghost use Rattle.script.specs.Script.{scripted};
 
-use lent::{Written, put};
-use parts::{Ends, check_ends, exceeds, joined_length, put_joined};
+use crate::pieces::{any_exceeds, put_all};
+use lent::put;
+use parts::{check_ends, joined_length, put_joined};
 use refusals::Refusal;
 
 // How long the line is, by its name and the joined parameters and constructors: only parameters with a text bring `par`.
@@ -19,20 +20,19 @@ fn datatype_length(name: usize, parameters: usize, constructors: usize) -> usize
     ensures { result ≡ cond (eqb parameters 0) (name + constructors + 26) (name + parameters + constructors + 35) }
 {
     if parameters == 0 {
-        return name + constructors + 26;
+        name + constructors + 26
+    } else {
+        name + parameters + constructors + 35
     }
-    name + parameters + constructors + 35
 }
 
 fn put_bare(name: &[u8], constructors: &[u8], ends: &[u64], out: &mut [u8]) -> usize
     requires { ends_right constructors.now ends.now ≡ true }
     ensures { Offers out.old out.new 0 (datatype_line name.now (constructor_list (parts constructors.now ends.now))) result }
 {
-    let one = put(b"(declare-datatype ", out, 0);
-    let two = put(name, out, one);
-    let three = put(b" (\n  ", out, two);
-    let four = put_joined(b"\n  ", constructors, ends, out, three);
-    put(b"))\n", out, four)
+    let at = put_all(&[b"(declare-datatype ", name, b" (\n  "], out, 0);
+    let at = put_joined(b"\n  ", constructors, ends, out, at);
+    put(b"))\n", out, at)
 }
 
 // The stops are the ends of the parameters.
@@ -47,13 +47,11 @@ fn put_parametric(
     requires { (ends_right parameters.now stops.now ≡ true) × (ends_right constructors.now ends.now ≡ true) }
     ensures { Offers out.old out.new 0 (datatype_line name.now (parametric (parts parameters.now stops.now) (constructor_list (parts constructors.now ends.now)))) result }
 {
-    let one = put(b"(declare-datatype ", out, 0);
-    let two = put(name, out, one);
-    let three = put(b" (par (", out, two);
-    let four = put_joined(b" ", parameters, stops, out, three);
-    let five = put(b") (\n  ", out, four);
-    let six = put_joined(b"\n  ", constructors, ends, out, five);
-    put(b")))\n", out, six)
+    let at = put_all(&[b"(declare-datatype ", name, b" (par ("], out, 0);
+    let at = put_joined(b" ", parameters, stops, out, at);
+    let at = put(b") (\n  ", out, at);
+    let at = put_joined(b"\n  ", constructors, ends, out, at);
+    put(b")))\n", out, at)
 }
 
 fn put_datatype(
@@ -69,9 +67,10 @@ fn put_datatype(
     ensures { Offers out.old out.new 0 (declare_datatype name.now (parts parameters.now stops.now) (parts constructors.now ends.now)) result }
 {
     if inner == 0 {
-        return put_bare(name, constructors, ends, out);
+        put_bare(name, constructors, ends, out)
+    } else {
+        put_parametric(name, parameters, stops, constructors, ends, out)
     }
-    put_parametric(name, parameters, stops, constructors, ends, out)
 }
 
 pub fn declare_datatype(
@@ -81,30 +80,30 @@ pub fn declare_datatype(
     constructors: &[u8],
     ends: &[u64],
     out: &mut [u8],
-) -> Written
+) -> Result<usize, Refusal>
     ensures { Leaves (scripted (name.now ∷ parameters.now ∷ stops.now ∷ constructors.now ∷ ends.now ∷ []) (ends_right parameters.now stops.now && ends_right constructors.now ends.now) (declare_datatype name.now (parts parameters.now stops.now) (parts constructors.now ends.now)) out.old) result out.new }
 {
-    let one = exceeds(ends.len(), false);
-    let two = exceeds(constructors.len(), one);
-    let three = exceeds(stops.len(), two);
-    let four = exceeds(parameters.len(), three);
-    if exceeds(name.len(), four) {
-        return Written::Refused(Refusal::InputTooLong);
+    if any_exceeds(&[
+        name.len(),
+        parameters.len(),
+        stops.len(),
+        constructors.len(),
+        ends.len(),
+    ]) {
+        return Err(Refusal::InputTooLong);
     }
-    let first = check_ends(parameters.len(), stops);
-    let Ends::Rise(parameters_end) = first else {
-        return Written::Refused(Refusal::BadTable);
+    let Some(parameters_end) = check_ends(parameters.len(), stops) else {
+        return Err(Refusal::BadTable);
     };
-    let second = check_ends(constructors.len(), ends);
-    let Ends::Rise(constructors_end) = second else {
-        return Written::Refused(Refusal::BadTable);
+    let Some(constructors_end) = check_ends(constructors.len(), ends) else {
+        return Err(Refusal::BadTable);
     };
     let inner = joined_length(parameters_end, stops.len(), 1);
     let rows = joined_length(constructors_end, ends.len(), 3);
     let need = datatype_length(name.len(), inner, rows);
     if out.len() < need {
-        return Written::Refused(Refusal::OutRoom(need));
+        return Err(Refusal::OutRoom(need));
     }
     put_datatype(name, parameters, stops, constructors, ends, out, inner);
-    Written::Length(need)
+    Ok(need)
 }

@@ -4,6 +4,7 @@
 mod datatype;
 mod fixed;
 mod functions;
+mod pieces;
 mod plain;
 mod remark;
 

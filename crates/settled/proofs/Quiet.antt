@@ -1,9 +1,9 @@
 -- Trees in which no operator stands: what is read of them is read with operators worked out too, and they are settled whatever is remembered.
 -- Assumes nothing.
+use Rattle.std.proofs.Common.{None, Option, Some, Ok}
 use mathlib.Core.Path.{◌≡◌, refl, sym, ap, ◌∙◌, subst}
 use mathlib.Core.Bool.{Bool, true, false, true≢false}
 use mathlib.Core.List.{List, [], ◌∷◌}
-use mathlib.Core.Option.{Option, none, some}
 use Prim.Native.Nat.{ℕ, zero, suc, ◌+◌}
 use native.Mathlib.Omega.{arith}
 use Rattle.ground.specs.Bytes.{bytes}
@@ -21,7 +21,6 @@ use Rattle.shapes.specs.Shape.{Shape, uncovered, as_none, as_some, some_of, as_e
 use Rattle.shapes.specs.Shows.{Standing}
 use Rattle.shapes.proofs.Looks.{kind, kind_of, kinds}
 use Rattle.shapes.specs.SortShape.{SortShape, sort_shape}
-use Rattle.sorts.specs.Result.{ok}
 use Rattle.sorts.specs.Sort.{sort_of, read_sort}
 use Rattle.values.specs.Value.{Values}
 use Rattle.means.specs.Literal.{Lit, entity_lit, same_count, fields_of, made_row, app_lit, read_with}
@@ -57,7 +56,7 @@ abbrev mutual
   QuietAll nil = Unit {0}
   QuietAll (cons u us) = Quiet u × QuietAll us
 
-undecided : (T : Tables) (s : Shape) → quiet s ≡ true → decision T s ≡ none
+undecided : (T : Tables) (s : Shape) → quiet s ≡ true → decision T s ≡ None
 undecided T uncovered h = refl
 undecided T (as_none t) h = refl
 undecided T (as_some t v) h = refl
@@ -75,11 +74,11 @@ undecided T (ite c v w) h = absurd (true≢false (sym h))
 
 -- settled, whatever is remembered
 module _ (T : Tables) (ms ws ts : List ℕ) where
-  no-decision : (us vs : Trees) (i : ℕ) → Standing (app us) ws ts i → Standing (app vs) ws ts i → quiet (shape us) ≡ true → (b : Bool) → decision T (shape vs) ≡ some b → ⊥
+  no-decision : (us vs : Trees) (i : ℕ) → Standing (app us) ws ts i → Standing (app vs) ws ts i → quiet (shape us) ≡ true → (b : Bool) → decision T (shape vs) ≡ Some b → ⊥
   no-decision us vs i s r h b e =
       let q : app us ≡ app vs = one-tree ws ts (app us) (app vs) i s.next r.next s.from s.rest r.from r.rest s.there r.there in
       let v : us ≡ vs = cc in
-      let k : ◌≡◌ {A = Option Bool} none (some b) = sym (undecided T (shape us) h) ∙ ap (λ (x : Trees). decision T (shape x)) v ∙ e in
+      let k : ◌≡◌ {A = Option Bool} None (Some b) = sym (undecided T (shape us) h) ∙ ap (λ (x : Trees). decision T (shape x)) v ∙ e in
       let z : ◌≡◌ {A = ℕ} 0 1 = cc in
       absurd (omega arith)
 
@@ -132,7 +131,7 @@ unfolding shape same_text
 set-quiet t = one-quiet (bytes "Set") t refl refl refl refl refl refl refl
 
 module _ (T : Tables) where
-  quiet-sort-shape : (a : ℕ) → ((t : Tree) (row : ℕ) → read_sort T a t ≡ ok row → Quiet t) → (t : Tree) (s : SortShape) → SortView t s → (row : ℕ) → sort_of T (λ u. read_sort T a u) s ≡ ok row → Quiet t
+  quiet-sort-shape : (a : ℕ) → ((t : Tree) (row : ℕ) → read_sort T a t ≡ Ok row → Quiet t) → (t : Tree) (s : SortShape) → SortView t s → (row : ℕ) → sort_of T (λ u. read_sort T a u) s ≡ Ok row → Quiet t
   unfolding shape same_text
   quiet-sort-shape a below _ _ s_word row e = tt
   quiet-sort-shape a below _ _ s_width row e = (refl, (tt, (tt, (tt, tt))))
@@ -140,14 +139,14 @@ module _ (T : Tables) where
   quiet-sort-shape a below _ _ (s_set {t = t}) row e = let w = went _ _ row e in (set-quiet t, (tt, (below t w.got w.first, tt)))
   quiet-sort-shape a below _ _ s_none row e = refuses e
 
-  pub quiet-sort : (a : ℕ) (t : Tree) (row : ℕ) → read_sort T a t ≡ ok row → Quiet t
+  pub quiet-sort : (a : ℕ) (t : Tree) (row : ℕ) → read_sort T a t ≡ Ok row → Quiet t
   unfolding read_sort
   quiet-sort zero t row e = refuses e
   quiet-sort (suc a) t row e = quiet-sort-shape a (λ u q. quiet-sort a u q) t (sort_shape t) (sort-view t) row e
 
   -- what is read with operators refused
-  module _ (a : ℕ) (below : (e : Option ℕ) (t : Tree) (l : Lit) → read_with T false a e t ≡ ok l → Quiet t) where
-    quiet-fields : (fs : List ℕ) (us : Trees) (vs : Values) → same_count fs us ≡ true → fields_of (λ e u. read_with T false a e u) fs us ≡ ok vs → QuietAll us
+  module _ (a : ℕ) (below : (e : Option ℕ) (t : Tree) (l : Lit) → read_with T false a e t ≡ Ok l → Quiet t) where
+    quiet-fields : (fs : List ℕ) (us : Trees) (vs : Values) → same_count fs us ≡ true → fields_of (λ e u. read_with T false a e u) fs us ≡ Ok vs → QuietAll us
     quiet-fields [] nil vs c e = tt
     quiet-fields [] (cons u us) vs c e = absurd (true≢false (sym c))
     quiet-fields (f ∷ fs) nil vs c e = absurd (true≢false (sym c))
@@ -155,9 +154,9 @@ module _ (T : Tables) where
         let w = went _ _ vs e in
         let p = passed _ UnmatchedFieldType _ vs w.next in
         let z = went _ _ vs p.1 in
-        (below (some f) u w.got w.first, quiet-fields fs us z.got c z.first)
+        (below (Some f) u w.got w.first, quiet-fields fs us z.got c z.first)
 
-    quiet-entity : (row : ℕ) (us : Trees) (l : Lit) → entity_lit row us ≡ ok l → QuietAll us
+    quiet-entity : (row : ℕ) (us : Trees) (l : Lit) → entity_lit row us ≡ Ok l → QuietAll us
     quiet-entity row nil l e = tt
     quiet-entity row (cons (bits w n) us) l e = refuses e
     quiet-entity row (cons (numeral n) us) l e = refuses e
@@ -166,21 +165,21 @@ module _ (T : Tables) where
     quiet-entity row (cons (symbol s) us) l e = refuses e
     quiet-entity row (cons (app ts) us) l e = refuses e
 
-    quiet_row : (row : ℕ) (o : Option Sort) (us : Trees) (l : Lit) → made_row T (λ t. read_sort T a t) (λ e u. read_with T false a e u) row o us ≡ ok l → QuietAll us
-    quiet_row row none us l e = refuses e
-    quiet_row row (some bool) us l e = refuses e
-    quiet_row row (some string) us l e = refuses e
-    quiet_row row (some (ext x)) us l e = refuses e
-    quiet_row row (some (bit_vec w)) us l e = refuses e
-    quiet_row row (some (option_of q)) us l e = refuses e
-    quiet_row row (some (set_of q)) us l e = refuses e
-    quiet_row row (some (entity_of name)) us l e = quiet-entity row us l e
-    quiet_row row (some (record_of name fs)) us l e =
+    quiet_row : (row : ℕ) (o : Option Sort) (us : Trees) (l : Lit) → made_row T (λ t. read_sort T a t) (λ e u. read_with T false a e u) row o us ≡ Ok l → QuietAll us
+    quiet_row row None us l e = refuses e
+    quiet_row row (Some bool) us l e = refuses e
+    quiet_row row (Some string) us l e = refuses e
+    quiet_row row (Some (ext x)) us l e = refuses e
+    quiet_row row (Some (bit_vec w)) us l e = refuses e
+    quiet_row row (Some (option_of q)) us l e = refuses e
+    quiet_row row (Some (set_of q)) us l e = refuses e
+    quiet_row row (Some (entity_of name)) us l e = quiet-entity row us l e
+    quiet_row row (Some (record_of name fs)) us l e =
         let p = passed _ UnmatchedRecordType _ l e in
         let w = went _ _ l p.1 in
         quiet-fields fs us w.got p.0 w.first
 
-    quiet-app : (us : Trees) (s : Shape) → View us s → (e : Option ℕ) (l : Lit) → app_lit T (λ t. read_sort T a t) (λ x u. read_with T false a x u) false e s ≡ ok l → (quiet s ≡ true) × QuietAll us
+    quiet-app : (us : Trees) (s : Shape) → View us s → (e : Option ℕ) (l : Lit) → app_lit T (λ t. read_sort T a t) (λ x u. read_with T false a x u) false e s ≡ Ok l → (quiet s ≡ true) × QuietAll us
     unfolding shape same_text
     quiet-app _ _ v_unary e l m = refuses m
     quiet-app _ _ v_binary e l m = refuses m
@@ -200,7 +199,7 @@ module _ (T : Tables) where
     quiet-app _ _ (v_made {f = f} {us = us}) e l m = let w = went _ _ l m in (refl, (tt, quiet_row w.got (at T.sorts w.got) us l w.next))
     quiet-app _ _ v_other e l m = refuses m
 
-  pub quiet_read : (a : ℕ) (e : Option ℕ) (t : Tree) (l : Lit) → read_with T false a e t ≡ ok l → Quiet t
+  pub quiet_read : (a : ℕ) (e : Option ℕ) (t : Tree) (l : Lit) → read_with T false a e t ≡ Ok l → Quiet t
   unfolding read_with
   quiet_read zero e t l m = refuses m
   quiet_read (suc a) e (bits w n) l m = tt

@@ -1,24 +1,21 @@
 -- One step to the branch that is taken.
 -- Assumes nothing.
+use Rattle.std.proofs.Common.{None, Option, Some}
 use mathlib.Core.Path.{◌≡◌, refl, sym, ap, ap₂, ◌∙◌, subst}
 use mathlib.Core.Bool.{Bool, true, false, cond, true≢false}
-use mathlib.Core.List.{List, [], ◌∷◌}
+use mathlib.Core.List.{List}
 use Prim.Native.Nat.{ℕ, ◌+◌, ◌≤◌, ◌<◌}
 use native.Mathlib.Omega.{arith}
-use denote.Enum.Declared.{tag_of}
 use Rattle.ground.specs.Bytes.{bytes}
 use Rattle.arena.specs.Node.{after_at}
 use Rattle.arena.specs.Stands.{TreeStands}
 use Rattle.arena.specs.Tree.{Tree, Trees, bit_vec, numeral, string, symbol, app}
 use Rattle.arena.proofs.Layouts.{stands_after, stands-longer}
-use Rattle.shapes.specs.declared.look.Parts.{Parts}
 use Rattle.shapes.specs.declared.shape.Found.{Found}
 use Rattle.shapes.specs.Shape.{Shape, on_app, ite, shape}
 use Rattle.shapes.specs.Shows.{Standing, PartsAt, Shows, ShapeAt}
-use Rattle.shapes.specs.contracts.shape.Found as FoundType
 use Rattle.well_sorted.proofs.Views.{call3, View, v_unary, v_binary, v_ite, v_uncovered, v_as_none, v_as_some, v_some_of, v_as_empty, v_singleton, v_union, v_extension, v_indexed, v_made, v_other, view}
 use Rattle.marks.specs.Mark.{marked}
-use Rattle.settled.specs.declared.branch.Step.{Step}
 use Rattle.settled.specs.Taken.{ite_shape, is_ite, argument, Branch, StepAt}
 
 -- what has the shape of an `ite` is one
@@ -87,8 +84,8 @@ not-list (string s) e = refl
 not-list (symbol s) e = refl
 not-list (app us) e = absurd (true≢false e)
 
-module _ (ms ws ts : List ℕ) (i : ℕ) (p : Parts) (parts : PartsAt ws i p) where
-  pub step-atom : p ≡ Parts.NoList → StepAt ms ws ts i Step.Stay
+module _ (ms ws ts : List ℕ) (i : ℕ) (p : Option ℕ) (parts : PartsAt ws i p) where
+  pub step-atom : p ≡ None → StepAt ms ws ts i None
   step-atom e t s = not-list t (subst (PartsAt ws i) e parts ts t s)
 
   module _ (f : Found) (shown : ShapeAt ws ts i f) where
@@ -111,14 +108,14 @@ module _ (ms ws ts : List ℕ) (i : ℕ) (p : Parts) (parts : PartsAt ws i p) wh
         go (Found.Binary op left right) h s g = ap ite_shape g.2
         go (Found.Ite condition left right) h s g = absurd (h condition left right refl)
 
-    pub step_other : ((condition left right : ℕ) → f ≡ Found.Ite condition left right → ⊥) → StepAt ms ws ts i Step.Stay
+    pub step_other : ((condition left right : ℕ) → f ≡ Found.Ite condition left right → ⊥) → StepAt ms ws ts i None
     step_other h (bit_vec w n) s = refl
     step_other h (numeral n) s = refl
     step_other h (string t) s = refl
     step_other h (symbol t) s = refl
     step_other h (app us) s = other-shape h (shape us) (shown.1 us s)
 
-    module _ (many : ℕ) (list : p ≡ Parts.Children many) (condition left right : ℕ) (is : f ≡ Found.Ite condition left right) where
+    module _ (many : ℕ) (list : p ≡ Some many) (condition left right : ℕ) (is : f ≡ Found.Ite condition left right) where
       placed : (condition ≡ after_at ws (i + 1)) × (left ≡ after_at ws (after_at ws (i + 1))) × (right ≡ after_at ws left)
       placed = (subst (λ (g : Found). ShapeAt ws ts i g) is shown).0
 
@@ -137,7 +134,7 @@ module _ (ms ws ts : List ℕ) (i : ℕ) (p : Parts) (parts : PartsAt ws i p) wh
           let z = placed in
           e ∙ ap₂ (λ (x y : ℕ). cond b x y) z.1 (z.2 ∙ ap (λ (n : ℕ). after_at ws n) z.1) ∙ ap (λ (x : Bool). cond x (argument ws i 1) (argument ws i 2)) m
 
-      pub step-to : (b : Bool) → b ≡ marked ms i → (j : ℕ) → j ≡ cond b left right → StepAt ms ws ts i (Step.To j)
+      pub step-to : (b : Bool) → b ≡ marked ms i → (j : ℕ) → j ≡ cond b left right → StepAt ms ws ts i (Some j)
       step-to b m j e (bit_vec w n) s = absurd (true≢false (sym (ap (λ (t : Tree). on_app t false (λ us. true)) ((subst (PartsAt ws i) list parts).1 ts (bit_vec w n) s).1)))
       step-to b m j e (numeral n) s = absurd (true≢false (sym (ap (λ (t : Tree). on_app t false (λ us. true)) ((subst (PartsAt ws i) list parts).1 ts (numeral n) s).1)))
       step-to b m j e (string t) s = absurd (true≢false (sym (ap (λ (t : Tree). on_app t false (λ us. true)) ((subst (PartsAt ws i) list parts).1 ts (string t) s).1)))

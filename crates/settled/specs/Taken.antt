@@ -1,16 +1,13 @@
 -- Document 02, R-2, `ite`: the literal that is left of one at a node where each `ite` is its taken branch.
-use Rattle.std.specs.Prelude.{◌≡◌, Bool, true, false, cond, List, ℕ, zero, suc, ◌+◌, ◌≤◌, ◌<◌}
-use Rattle.std.proofs.Math.Option.{Option, some}
+use Rattle.std.specs.Prelude.{◌≡◌, Bool, true, false, cond, List, ℕ, zero, suc, ◌+◌, ◌≤◌, ◌<◌, Option, Some, None, Ok}
 use Rattle.arena.specs.Node.{after_at}
 use Rattle.arena.specs.Tree.{Tree, Trees, bit_vec, numeral, string, symbol, app}
 use Rattle.tables.specs.Sort.{Tables}
 use Rattle.shapes.specs.Shape.{Shape, uncovered, as_none, as_some, some_of, as_empty, singleton, union, extension, indexed, made, other, unary, binary, ite, shape}
 use Rattle.shapes.specs.Shows.{Standing}
-use Rattle.sorts.specs.Result.{ok}
 use Rattle.sorts.specs.Sort.{levels}
 use Rattle.means.specs.Literal.{Lit, read_with}
 use Rattle.marks.specs.Mark.{marked}
-use Rattle.settled.specs.declared.branch.Step.{Step}
 use Rattle.settled.specs.Settled.{decision, Settled}
 
 -- an `ite`
@@ -43,7 +40,7 @@ pub record Stood (T : Tables) (ms ws ts : List ℕ) (allow : ℕ) (expected : Op
   pub there : Standing tree ws ts i
   pub behind : first ≤ i
   pub within : there.next ≤ end
-  pub reads : read_with T true allow expected tree ≡ ok l
+  pub reads : read_with T true allow expected tree ≡ Ok l
   pub settled : Settled T ms ws ts i there.next
 
 pub record Taken (T : Tables) (ms ws ts : List ℕ) (allow : ℕ) (expected : Option ℕ) (l : Lit) (first end i : ℕ) : Type 0 where
@@ -58,7 +55,7 @@ argument ws i (suc n) = after_at ws (argument ws i n)
 -- from a tree at a node to the branch that is left of it, by what the conditions decide
 pub data Leads (T : Tables) (ws : List ℕ) : Tree → ℕ → Tree → ℕ → Type 0 where
   stays : {t : Tree} {i : ℕ} → Leads T ws t i t i
-  takes : {us : Trees} {u : Tree} {i j : ℕ} (c v w : Tree) (b : Bool) → shape us ≡ ite c v w → decision T (shape us) ≡ some b →
+  takes : {us : Trees} {u : Tree} {i j : ℕ} (c v w : Tree) (b : Bool) → shape us ≡ ite c v w → decision T (shape us) ≡ Some b →
       Leads T ws (cond b v w) (cond b (argument ws i 1) (argument ws i 2)) u j → Leads T ws (app us) i u j
 
 -- the branch of an `ite` that is taken by what is remembered of it, behind the node and not beyond the end
@@ -74,9 +71,9 @@ pub record Branch (ms ws ts : List ℕ) (t : Tree) (i end j : ℕ) : Type 0 wher
   pub behind : i < j
   pub within : there.next ≤ end
 
-abbrev pub StepAt : List ℕ → List ℕ → List ℕ → ℕ → Step → Type 0
-StepAt ms ws ts i Step.Stay = (t : Tree) → Standing t ws ts i → is_ite t ≡ false
-StepAt ms ws ts i (Step.To j) = (t : Tree) (s : Standing t ws ts i) → Branch ms ws ts t i s.next j
+abbrev pub StepAt : List ℕ → List ℕ → List ℕ → ℕ → Option ℕ → Type 0
+StepAt ms ws ts i None = (t : Tree) → Standing t ws ts i → is_ite t ≡ false
+StepAt ms ws ts i (Some j) = (t : Tree) (s : Standing t ws ts i) → Branch ms ws ts t i s.next j
 
 abbrev pub TakesAt : List ℕ → List ℕ → List ℕ → ℕ → ℕ → Type 0
 TakesAt ms ws ts i j =

@@ -1,5 +1,6 @@
 -- One law for each way out of the matching of words and counts.
 -- Assumes nothing.
+use Rattle.std.proofs.Common.{None, Option, Some}
 use mathlib.Core.Path.{◌≡◌, refl, sym, ap, ◌∙◌, subst}
 use mathlib.Core.Bool.{Bool, true, false, true≢false}
 use mathlib.Core.List.{List}
@@ -14,7 +15,6 @@ use Rattle.shapes.specs.declared.shape.Found.{Found}
 use Rattle.shapes.specs.declared.shape.BinaryOp.{BinaryOp}
 use Rattle.shapes.specs.declared.shape.Kind.{Kind}
 use Rattle.shapes.specs.declared.shape.UnaryOp.{UnaryOp}
-use Rattle.shapes.specs.declared.look.Wide.{Wide}
 use Rattle.shapes.specs.Shape.{Shape, made, is, on_symbol, on_numeral, on_bit_vec, on_app, ext_shape, one, two, pair_shape}
 use Rattle.shapes.specs.Shows.{Standing, Reads, Shows, OneAt, TwoAt, WideAt}
 use Rattle.shapes.proofs.Stood.{first_of, second-of, said-so}
@@ -65,17 +65,17 @@ module _ (ws ts : List ℕ) (offset size first : ℕ) where
       (f, (cons a nil), refl, r, record { next = s.next; from = s.from; rest = s.rest; there = record { mid = s.next; off = s.rest; first = s.there; others = record { next = refl; rest = refl } }; many-are = refl })
 
   -- (Decimal b), (Datetime b), (Duration b)
-  pub ext-not-wide : (w : Wide) → WideAt ws first w → w ≡ Wide.NotWide → OneAt ext_shape ws ts offset size first (Found.Made offset size first 1)
+  pub ext-not-wide : (w : Option ℕ) → WideAt ws first w → w ≡ None → OneAt ext_shape ws ts offset size first (Found.Made offset size first 1)
   ext-not-wide w h e = (
     refl,
     λ f a r s.
-        let g = subst (λ (x : Wide). WideAt ws first x) e h in
+        let g = subst (λ (x : Option ℕ). WideAt ws first x) e h in
         shown_as ws ts (Found.Made offset size first 1) (ext_shape f a) (made f (cons a nil)) (not_wide f a (g ts a s)) (one-made f a r s),
   )
 
-  module _ (w : Wide) (low : ℕ) (wide : WideAt ws first w) (bits : w ≡ Wide.Bits low) where
+  module _ (w : Option ℕ) (low : ℕ) (wide : WideAt ws first w) (bits : w ≡ Some low) where
     seen : (a : Tree) → Standing a ws ts first → (n : ℕ) × (a ≡ bit_vec 64 n) × (low ≡ n % 2 ^ 64)
-    seen a s = subst (λ (x : Wide). WideAt ws first x) bits wide ts a s
+    seen a s = subst (λ (x : Option ℕ). WideAt ws first x) bits wide ts a s
 
     pub ext-decimal : Says (bytes "Decimal") true → OneAt ext_shape ws ts offset size first (Found.Extension Kind.Decimal low)
     ext-decimal h0 = (tt, λ f a r s. let g = seen a s in (g.0, ap (λ (b : Tree). ext_shape f b) g.1 ∙ rw (so f r "Decimal" true h0), g.2))

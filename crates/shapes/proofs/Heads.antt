@@ -1,44 +1,26 @@
 -- Applications by their count of arguments, and by their heads.
 -- Assumes nothing.
+use Rattle.std.proofs.Common.{None, Option, Some}
 use mathlib.Core.Path.{◌≡◌, refl, sym, ap, ◌∙◌, subst}
 use mathlib.Core.Bool.{Bool, true, false, cond, true≢false}
 use mathlib.Core.List.{List}
 use Prim.Native.Nat.{ℕ, suc, ◌+◌, ◌-◌}
 use native.Mathlib.Omega.{arith}
 use Rattle.ground.specs.Bytes.{bytes}
-use Rattle.arena.specs.declared.node.Node.{Node}
 use Rattle.arena.specs.declared.node.Node.TheVariants.{Symbol, App}
 use Rattle.arena.specs.Node.{node_at, after_at}
 use Rattle.arena.specs.Text.{text_is}
 use Rattle.arena.specs.Tree.{Tree, Trees, bit_vec, numeral, string, symbol, app, nil, cons}
 use Rattle.arena.proofs.Views.{after-of}
 use Rattle.shapes.specs.declared.shape.Found.{Found}
-use Rattle.shapes.specs.declared.look.Word.{Word}
-use Rattle.shapes.specs.declared.look.Parts.{Parts}
-use Rattle.shapes.specs.Shape.{Shape, as_some, other, on_symbol, one, two, some_shape, shape}
-use Rattle.shapes.specs.Shows.{Standing, StandingAll, Reads, Shows, Placed, OneAt, TwoAt, AppliedShows, AppliedAt, HeadedShows, HeadedAt, ByHeadShows, ByHeadAt, ShapeShows, ShapeAt, WordAt, PartsAt}
+use Rattle.shapes.specs.Shape.{Shape, as_some, other, on_symbol, some_shape, shape}
+use Rattle.shapes.specs.Shows.{Standing, StandingAll, Reads, Shows, Placed, AppliedShows, AppliedAt, HeadedShows, HeadedAt, ByHeadShows, ByHeadAt, ShapeShows, ShapeAt, WordAt, PartsAt}
 use Rattle.shapes.proofs.Looks.{kind, kinds, symbol-there, list-there, children-of}
 use Rattle.shapes.proofs.Stood.{first_of, others-of, said-so}
 use Rattle.shapes.proofs.Arms.{not-symbol}
+use Rattle.shapes.specs.declared.look.Word.{Word}
 
 module _ (ws ts : List ℕ) (offset size first many : ℕ) where
-  one-shows : (q : Found) → many ≡ 1 → ((f : List ℕ) (a : Tree) → Reads f ts offset size → Standing a ws ts first → Shows ws ts q (one f a)) → AppliedShows ws ts offset size first many q
-  one-shows q h k f nil r s = let c = s.many-are in absurd (omega arith)
-  one-shows q h k f (cons a nil) r s = k f a r (first_of ws ts a nil first many s)
-  one-shows q h k f (cons a (cons b us)) r s = let c = s.many-are in absurd (omega arith)
-
-  pub applied-one : (q : Found) → many ≡ 1 → OneAt one ws ts offset size first q → AppliedAt ws ts offset size first many q
-  applied-one q h k = (k.0, one-shows q h k.1)
-
-  two-shows : (q : Found) → many ≡ 2 → ((f : List ℕ) (a b : Tree) → Reads f ts offset size → StandingAll (cons a (cons b nil)) ws ts first 2 → Shows ws ts q (two f a b)) → AppliedShows ws ts offset size first many q
-  two-shows q h k f nil r s = let c = s.many-are in absurd (omega arith)
-  two-shows q h k f (cons a nil) r s = let c = s.many-are in absurd (omega arith)
-  two-shows q h k f (cons a (cons b nil)) r s = k f a b r (subst (λ (n : ℕ). StandingAll (cons a (cons b nil)) ws ts first n) h s)
-  two-shows q h k f (cons a (cons b (cons c us))) r s = let c = s.many-are in absurd (omega arith)
-
-  pub applied_two : (q : Found) → many ≡ 2 → TwoAt two ws ts offset size first q → AppliedAt ws ts offset size first many q
-  applied_two q h k = (k.0, two-shows q h k.1)
-
   ite-shows : many ≡ 3 → text_is ts offset size (bytes "ite") ≡ true → (second third : ℕ) → second ≡ after_at ws first → third ≡ after_at ws second →
       AppliedShows ws ts offset size first many (Found.Ite first second third)
   ite-shows h t second third p q f nil r s = let c = s.many-are in absurd (omega arith)
@@ -71,40 +53,8 @@ module _ (ws ts : List ℕ) (offset size first many : ℕ) where
   pub applied_three : many ≡ 3 → text_is ts offset size (bytes "ite") ≡ false → AppliedAt ws ts offset size first many (Found.Made offset size first many)
   applied_three h t = (refl, three-shows h t)
 
-  made-shows : (many ≡ 1 → ⊥) → (many ≡ 2 → ⊥) → (many ≡ 3 → ⊥) → AppliedShows ws ts offset size first many (Found.Made offset size first many)
-  made-shows p q h f nil r s = (f, nil, refl, r, s)
-  made-shows p q h f (cons a nil) r s = absurd (p s.many-are)
-  made-shows p q h f (cons a (cons b nil)) r s = absurd (q s.many-are)
-  made-shows p q h f (cons a (cons b (cons c nil))) r s = absurd (h s.many-are)
-  made-shows p q h f (cons a (cons b (cons c (cons d us)))) r s = (f, cons a (cons b (cons c (cons d us))), refl, r, s)
-
-  pub applied-made : (many ≡ 1 → ⊥) → (many ≡ 2 → ⊥) → (many ≡ 3 → ⊥) → AppliedAt ws ts offset size first many (Found.Made offset size first many)
-  applied-made p q h = (refl, made-shows p q h)
-
 -- ((as some T) v), where the head has three parts and there is one argument
 module _ (ws ts : List ℕ) (inner parts value many : ℕ) where
-  parts-shows : (parts ≡ 3 → ⊥) → HeadedShows ws ts inner parts value many Found.Other
-  parts-shows h nil vs p s = refl
-  parts-shows h (cons a nil) vs p s = refl
-  parts-shows h (cons a (cons b nil)) vs p s = refl
-  parts-shows h (cons a (cons b (cons t nil))) vs p s = absurd (h p.many-are)
-  parts-shows h (cons a (cons b (cons t (cons d us)))) vs p s = refl
-
-  pub headed-parts : (parts ≡ 3 → ⊥) → HeadedAt ws ts inner parts value many Found.Other
-  headed-parts h = (tt, parts-shows h)
-
-  many-shows : (many ≡ 1 → ⊥) → HeadedShows ws ts inner parts value many Found.Other
-  many-shows h nil vs p s = refl
-  many-shows h (cons a nil) vs p s = refl
-  many-shows h (cons a (cons b nil)) vs p s = refl
-  many-shows h (cons a (cons b (cons t nil))) nil p s = refl
-  many-shows h (cons a (cons b (cons t nil))) (cons v nil) p s = absurd (h s.many-are)
-  many-shows h (cons a (cons b (cons t nil))) (cons v (cons w vs)) p s = refl
-  many-shows h (cons a (cons b (cons t (cons d us)))) vs p s = refl
-
-  pub headed-many : (many ≡ 1 → ⊥) → HeadedAt ws ts inner parts value many Found.Other
-  headed-many h = (tt, many-shows h)
-
   module _ (three-parts : parts ≡ 3) (one_value : many ≡ 1) where
     -- it is enough to look at three parts and one value
     by_parts : (q : Found) →
@@ -119,14 +69,14 @@ module _ (ws ts : List ℕ) (inner parts value many : ℕ) where
     by_parts q k (cons a (cons b (cons t nil))) (cons v (cons w vs)) p s = let c = s.many-are in absurd (omega arith)
     by_parts q k (cons a (cons b (cons t (cons d us)))) vs p s = let c = p.many-are in absurd (omega arith)
 
-    pub headed-first : (w : Word) → WordAt ws inner w → w ≡ Word.NoSymbol → HeadedAt ws ts inner parts value many Found.Other
+    pub headed-first : (w : Option Word) → WordAt ws inner w → w ≡ None → HeadedAt ws ts inner parts value many Found.Other
     headed-first w h e =
-        let n = subst (λ (x : Word). WordAt ws inner x) e h in
+        let n = subst (λ (x : Option Word). WordAt ws inner x) e h in
         (tt, by_parts Found.Other (λ a b t v p s. not-symbol a _ _ (n ts a (first_of ws ts a (cons b (cons t nil)) inner 3 p))))
 
-    module _ (w : Word) (offset size : ℕ) (h : WordAt ws inner w) (e : w ≡ Word.Symbol size offset) where
+    module _ (w : Option Word) (offset size : ℕ) (h : WordAt ws inner w) (e : w ≡ Some (record { size = size; offset = offset })) where
       first_word : (a b t : Tree) → StandingAll (cons a (cons b (cons t nil))) ws ts inner 3 → (f : List ℕ) × (a ≡ symbol f) × Reads f ts offset size
-      first_word a b t p = subst (λ (x : Word). WordAt ws inner x) e h ts a (first_of ws ts a (cons b (cons t nil)) inner 3 p)
+      first_word a b t p = subst (λ (x : Option Word). WordAt ws inner x) e h ts a (first_of ws ts a (cons b (cons t nil)) inner 3 p)
 
       dull : (b : Tree) → ◌≡◌ {A = Shape} (on_symbol b other (λ g. other)) other
       dull (bit_vec w n) = refl
@@ -142,37 +92,37 @@ module _ (ws ts : List ℕ) (inner parts value many : ℕ) where
             subst (λ (x : Tree). some_shape x b t v ≡ other) (sym g.1) (rw (said-so ts offset size g.0 g.2 (bytes "as") false k) (dull b))),
       )
 
-      module _ (as-word : text_is ts offset size (bytes "as") ≡ true) (second : ℕ) (here : second ≡ after_at ws inner) where
+      module _ (second : ℕ) (here : second ≡ after_at ws inner) where
         behind : (a b t : Tree) → StandingAll (cons a (cons b (cons t nil))) ws ts inner 3 → StandingAll (cons b (cons t nil)) ws ts second 2
         behind a b t p = others-of ws ts a (cons b (cons t nil)) inner 3 p second 2 here refl
 
-        pub headed-second : (u : Word) → WordAt ws second u → u ≡ Word.NoSymbol → HeadedAt ws ts inner parts value many Found.Other
+        pub headed-second : (u : Option Word) → WordAt ws second u → u ≡ None → HeadedAt ws ts inner parts value many Found.Other
         headed-second u m d =
-            let n = subst (λ (x : Word). WordAt ws second x) d m in (
+            let n = subst (λ (x : Option Word). WordAt ws second x) d m in (
               tt,
               by_parts Found.Other (λ a b t v p s. let g = first_word a b t p in
                   subst (λ (x : Tree). some_shape x b t v ≡ other) (sym g.1) (not-symbol b _ _ (n ts b (first_of ws ts b (cons t nil) second 2 (behind a b t p))))),
             )
 
-        module _ (u : Word) (off long : ℕ) (m : WordAt ws second u) (d : u ≡ Word.Symbol long off) where
+        module _ (u : Option Word) (off long : ℕ) (m : WordAt ws second u) (d : u ≡ Some (record { size = long; offset = off })) where
           second_word : (a b t : Tree) → StandingAll (cons a (cons b (cons t nil))) ws ts inner 3 → (g : List ℕ) × (b ≡ symbol g) × Reads g ts off long
-          second_word a b t p = subst (λ (x : Word). WordAt ws second x) d m ts b (first_of ws ts b (cons t nil) second 2 (behind a b t p))
+          second_word a b t p = subst (λ (x : Option Word). WordAt ws second x) d m ts b (first_of ws ts b (cons t nil) second 2 (behind a b t p))
 
-          some_is : (c : Bool) → text_is ts off long (bytes "some") ≡ c → (a b t v : Tree) → StandingAll (cons a (cons b (cons t nil))) ws ts inner 3 → some_shape a b t v ≡ cond c (as_some t v) other
-          some_is c k a b t v p =
+          some_is : text_is ts offset size (bytes "as") ≡ true → (c : Bool) → text_is ts off long (bytes "some") ≡ c → (a b t v : Tree) → StandingAll (cons a (cons b (cons t nil))) ws ts inner 3 → some_shape a b t v ≡ cond c (as_some t v) other
+          some_is as-word c k a b t v p =
               let f = first_word a b t p in
               let g = second_word a b t p in
               ap (λ (x : Tree). some_shape x b t v) f.1 ∙ ap (λ (x : Tree). some_shape (symbol f.0) x t v) g.1
               ∙ rw (said-so ts offset size f.0 f.2 (bytes "as") true as-word, said-so ts off long g.0 g.2 (bytes "some") c k)
 
-          pub headed-not-some : text_is ts off long (bytes "some") ≡ false → HeadedAt ws ts inner parts value many Found.Other
-          headed-not-some k = (tt, by_parts Found.Other (λ a b t v p s. some_is false k a b t v p))
+          pub headed-not-some : text_is ts offset size (bytes "as") ≡ true → text_is ts off long (bytes "some") ≡ false → HeadedAt ws ts inner parts value many Found.Other
+          headed-not-some j k = (tt, by_parts Found.Other (λ a b t v p s. some_is j false k a b t v p))
 
-          pub headed-some : text_is ts off long (bytes "some") ≡ true → (third : ℕ) → third ≡ after_at ws second → HeadedAt ws ts inner parts value many (Found.AsSome third value)
-          headed-some k third z = (
+          pub headed-some : text_is ts offset size (bytes "as") ≡ true → text_is ts off long (bytes "some") ≡ true → (third : ℕ) → third ≡ after_at ws second → HeadedAt ws ts inner parts value many (Found.AsSome third value)
+          headed-some j k third z = (
             refl,
             by_parts (Found.AsSome third value)
-                (λ a b t v p s. (t, v, some_is true k a b t v p, first_of ws ts t nil third 1 (others-of ws ts b (cons t nil) second 2 (behind a b t p) third 1 z refl), s)),
+                (λ a b t v p s. (t, v, some_is j true k a b t v p, first_of ws ts t nil third 1 (others-of ws ts b (cons t nil) second 2 (behind a b t p) third 1 z refl), s)),
           )
 
 -- the head, and the arguments behind it
@@ -184,16 +134,17 @@ module _ (ws ts : List ℕ) (i many : ℕ) where
     behind-head : (j : ℕ) → j ≡ after_at ws i → StandingAll us ws ts j many
     behind-head j e = others-of ws ts h us i (suc many) s j many e refl
 
-  atom-shows : (n : Node) → node_at ws i ≡ n → (kind n ≡ 4 → ⊥) → (kind n ≡ 5 → ⊥) → ByHeadShows ws ts i many Found.Other
-  unfolding shape
-  atom-shows n e p q (bit_vec w m) us s = refl
-  atom-shows n e p q (numeral m) us s = refl
-  atom-shows n e p q (string t) us s = refl
-  atom-shows n e p q (symbol t) us s = absurd (p (ap kind (sym e) ∙ kinds ws ts i (symbol t) (head-stands (symbol t) us s)))
-  atom-shows n e p q (app vs) us s = absurd (q (ap kind (sym e) ∙ kinds ws ts i (app vs) (head-stands (app vs) us s)))
+  module _ (no_symbol : (x y : ℕ) → node_at ws i ≡ Symbol x y → ⊥) (no-list : (x y : ℕ) → node_at ws i ≡ App x y → ⊥) where
+    atom-shows : ByHeadShows ws ts i many Found.Other
+    unfolding shape
+    atom-shows (bit_vec w m) us s = refl
+    atom-shows (numeral m) us s = refl
+    atom-shows (string t) us s = refl
+    atom-shows (symbol t) us s = absurd (no_symbol _ _ (head-stands (symbol t) us s).there.here)
+    atom-shows (app vs) us s = absurd (no-list _ _ (head-stands (app vs) us s).there.here)
 
-  pub by-atom : (n : Node) → node_at ws i ≡ n → (kind n ≡ 4 → ⊥) → (kind n ≡ 5 → ⊥) → ByHeadAt ws ts i many Found.Other
-  by-atom n e p q = (tt, atom-shows n e p q)
+    pub by-atom : ByHeadAt ws ts i many Found.Other
+    by-atom = (tt, atom-shows)
 
   pub by-symbol : (size offset : ℕ) → node_at ws i ≡ Symbol size offset → (q : Found) → AppliedAt ws ts offset size (i + 1) many q → ByHeadAt ws ts i many q
   unfolding shape
@@ -216,13 +167,13 @@ module _ (ws ts : List ℕ) (i many : ℕ) where
   by-list parts end e q k = (subst (λ (n : ℕ). Placed ws n q) (after-of ws i e) k.0, list-shows parts end e q k.1)
 
 -- the whole
-module _ (ws ts : List ℕ) (i : ℕ) (p : Parts) (h : PartsAt ws i p) where
-  pub shape-none : p ≡ Parts.NoList → ShapeAt ws ts i Found.Other
-  shape-none e = (tt, λ us s. absurd (true≢false (subst (λ (x : Parts). PartsAt ws i x) e h ts (app us) s)))
+module _ (ws ts : List ℕ) (i : ℕ) (p : Option ℕ) (h : PartsAt ws i p) where
+  pub shape-none : p ≡ None → ShapeAt ws ts i Found.Other
+  shape-none e = (tt, λ us s. absurd (true≢false (subst (λ (x : Option ℕ). PartsAt ws i x) e h ts (app us) s)))
 
-  module _ (many : ℕ) (e : p ≡ Parts.Children many) where
+  module _ (many : ℕ) (e : p ≡ Some many) where
     children : (us : Trees) → Standing (app us) ws ts i → StandingAll us ws ts (i + 1) many
-    children us s = children-of ws ts i many (subst (λ (x : Parts). PartsAt ws i x) e h) us s
+    children us s = children-of ws ts i many (subst (λ (x : Option ℕ). PartsAt ws i x) e h) us s
 
     empty-shows : many ≡ 0 → ShapeShows ws ts i Found.Other
     unfolding shape

@@ -1,21 +1,17 @@
 -- What a node is tells what tree stands there.
 -- Assumes nothing.
+use Rattle.std.proofs.Common.{Some}
 use mathlib.Core.Path.{◌≡◌, refl, sym, ap, ◌∙◌, subst}
 use mathlib.Core.List.{List}
 use Prim.Native.Nat.{ℕ, ◌+◌, ◌^◌, ◌%◌, ◌/◌}
 use native.Mathlib.Omega.{arith}
 use lib.ListN.{length}
-use borrow.Author.Tests.{ne_eqb}
 use Rattle.arena.specs.declared.node.Node.{Node}
 use Rattle.arena.specs.declared.node.Node.TheVariants.{BitVec, Numeral, String, Symbol, App, NoNode}
 use Rattle.arena.specs.Node.{node_at}
 use Rattle.arena.specs.Text.{text_at}
 use Rattle.arena.proofs.Views.{node-within}
 use Rattle.arena.specs.Tree.{Tree, Trees, bit_vec, numeral, string, symbol, app, count}
-use Rattle.shapes.specs.declared.look.Word.{Word}
-use Rattle.shapes.specs.declared.look.Index.{Index}
-use Rattle.shapes.specs.declared.look.Wide.{Wide}
-use Rattle.shapes.specs.declared.look.Parts.{Parts}
 use Rattle.shapes.specs.Shows.{Standing, StandingAll, WordAt, IndexOf, WideAt, PartsAt}
 
 -- the kind of a node, and of the tree that stands there
@@ -43,7 +39,7 @@ module _ (ws ts : List ℕ) (i : ℕ) where
   kinds (app us) s = ap kind s.there.here
 
 module _ (ws : List ℕ) (i : ℕ) where
-  pub symbol-there : (size offset : ℕ) → node_at ws i ≡ Symbol size offset → WordAt ws i (Word.Symbol size offset)
+  pub symbol-there : (size offset : ℕ) → node_at ws i ≡ Symbol size offset → WordAt ws i (Some (record { size = size; offset = offset }))
   symbol-there size offset e ts (bit_vec w n) s = let k = kinds ws ts i (bit_vec w n) s in let h = ap kind e in absurd (omega arith)
   symbol-there size offset e ts (numeral n) s = let k = kinds ws ts i (numeral n) s in let h = ap kind e in absurd (omega arith)
   symbol-there size offset e ts (string t) s = let k = kinds ws ts i (string t) s in let h = ap kind e in absurd (omega arith)
@@ -63,14 +59,7 @@ module _ (ws : List ℕ) (i : ℕ) where
       )
   symbol-there size offset e ts (app us) s = let k = kinds ws ts i (app us) s in let h = ap kind e in absurd (omega arith)
 
-  pub no_symbol : (n : Node) → node_at ws i ≡ n → (kind n ≡ 4 → ⊥) → WordAt ws i Word.NoSymbol
-  no_symbol n e f ts (bit_vec w m) s = refl
-  no_symbol n e f ts (numeral m) s = refl
-  no_symbol n e f ts (string t) s = refl
-  no_symbol n e f ts (symbol t) s = absurd (f (ap kind (sym e) ∙ kinds ws ts i (symbol t) s))
-  no_symbol n e f ts (app us) s = refl
-
-  pub numeral-there : (low high : ℕ) → node_at ws i ≡ Numeral low high → IndexOf ws i (Index.Numeral low high)
+  pub numeral-there : (low high : ℕ) → node_at ws i ≡ Numeral low high → IndexOf ws i (Some (record { low = low; high = high }))
   numeral-there low high e ts (bit_vec w n) s = let k = kinds ws ts i (bit_vec w n) s in let h = ap kind e in absurd (omega arith)
   numeral-there low high e ts (numeral n) s =
       let same : ◌≡◌ {A = Node} (Numeral (n % 2 ^ 64) (n / 2 ^ 64)) (Numeral low high) = sym s.there.here ∙ e in
@@ -81,14 +70,7 @@ module _ (ws : List ℕ) (i : ℕ) where
   numeral-there low high e ts (symbol t) s = let k = kinds ws ts i (symbol t) s in let h = ap kind e in absurd (omega arith)
   numeral-there low high e ts (app us) s = let k = kinds ws ts i (app us) s in let h = ap kind e in absurd (omega arith)
 
-  pub no-numeral : (n : Node) → node_at ws i ≡ n → (kind n ≡ 2 → ⊥) → IndexOf ws i Index.NoNumeral
-  no-numeral n e f ts (bit_vec w m) s = refl
-  no-numeral n e f ts (numeral m) s = absurd (f (ap kind (sym e) ∙ kinds ws ts i (numeral m) s))
-  no-numeral n e f ts (string t) s = refl
-  no-numeral n e f ts (symbol t) s = refl
-  no-numeral n e f ts (app us) s = refl
-
-  pub bits-there : (width low high : ℕ) → node_at ws i ≡ BitVec width low high → width ≡ 64 → WideAt ws i (Wide.Bits low)
+  pub bits-there : (width low high : ℕ) → node_at ws i ≡ BitVec width low high → width ≡ 64 → WideAt ws i (Some low)
   bits-there width low high e h ts (bit_vec w n) s =
       let same : ◌≡◌ {A = Node} (BitVec w (n % 2 ^ 64) (n / 2 ^ 64)) (BitVec width low high) = sym s.there.here ∙ e in
       let v : w ≡ width = cc in
@@ -99,24 +81,7 @@ module _ (ws : List ℕ) (i : ℕ) where
   bits-there width low high e h ts (symbol t) s = let k = kinds ws ts i (symbol t) s in let h = ap kind e in absurd (omega arith)
   bits-there width low high e h ts (app us) s = let k = kinds ws ts i (app us) s in let h = ap kind e in absurd (omega arith)
 
-  pub other_width : (width low high : ℕ) → node_at ws i ≡ BitVec width low high → (width ≡ 64 → ⊥) → WideAt ws i Wide.NotWide
-  other_width width low high e h ts (bit_vec w n) s =
-      let same : ◌≡◌ {A = Node} (BitVec w (n % 2 ^ 64) (n / 2 ^ 64)) (BitVec width low high) = sym s.there.here ∙ e in
-      let v : w ≡ width = cc in
-      ne_eqb w 64 (λ q. h (sym v ∙ q))
-  other_width width low high e h ts (numeral n) s = refl
-  other_width width low high e h ts (string t) s = refl
-  other_width width low high e h ts (symbol t) s = refl
-  other_width width low high e h ts (app us) s = refl
-
-  pub no_bits : (n : Node) → node_at ws i ≡ n → (kind n ≡ 1 → ⊥) → WideAt ws i Wide.NotWide
-  no_bits n e f ts (bit_vec w m) s = absurd (f (ap kind (sym e) ∙ kinds ws ts i (bit_vec w m) s))
-  no_bits n e f ts (numeral m) s = refl
-  no_bits n e f ts (string t) s = refl
-  no_bits n e f ts (symbol t) s = refl
-  no_bits n e f ts (app us) s = refl
-
-  pub list-there : (many end : ℕ) → node_at ws i ≡ App many end → PartsAt ws i (Parts.Children many)
+  pub list-there : (many end : ℕ) → node_at ws i ≡ App many end → PartsAt ws i (Some many)
   list-there many end e = (node-within ws i e refl, λ ts a s. children ts a s)
     where
       children : (ts : List ℕ) (a : Tree) → Standing a ws ts i → (us : Trees) × (a ≡ app us) × StandingAll us ws ts (i + 1) many
@@ -129,15 +94,8 @@ module _ (ws : List ℕ) (i : ℕ) where
           let c : count us ≡ many = cc in
           (us, refl, record { next = s.next; from = s.from; rest = s.rest; there = s.there.children; many-are = sym c })
 
-  pub no-list : (n : Node) → node_at ws i ≡ n → (kind n ≡ 5 → ⊥) → PartsAt ws i Parts.NoList
-  no-list n e f ts (bit_vec w m) s = refl
-  no-list n e f ts (numeral m) s = refl
-  no-list n e f ts (string t) s = refl
-  no-list n e f ts (symbol t) s = refl
-  no-list n e f ts (app us) s = absurd (f (ap kind (sym e) ∙ kinds ws ts i (app us) s))
-
 -- the children of a list
-pub children-of : (ws ts : List ℕ) (i many : ℕ) → PartsAt ws i (Parts.Children many) → (us : Trees) → Standing (app us) ws ts i → StandingAll us ws ts (i + 1) many
+pub children-of : (ws ts : List ℕ) (i many : ℕ) → PartsAt ws i (Some many) → (us : Trees) → Standing (app us) ws ts i → StandingAll us ws ts (i + 1) many
 children-of ws ts i many h us s =
     let g = h.1 ts (app us) s in
     let e : us ≡ g.0 = cc in

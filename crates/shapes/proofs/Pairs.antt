@@ -1,5 +1,6 @@
 -- Applications to two arguments of which the first is a symbol: (as none T), (as set.empty T), (_ bvN W).
 -- Assumes nothing.
+use Rattle.std.proofs.Common.{None, Option, Some}
 use mathlib.Core.Path.{◌≡◌, refl, sym, ap, ◌∙◌, subst}
 use mathlib.Core.Bool.{Bool, true, false, cond, true≢false}
 use mathlib.Core.List.{List, [], ◌∷◌, ◌++◌}
@@ -15,13 +16,13 @@ use Rattle.arena.specs.Text.{text_at, same_text, text_is}
 use Rattle.arena.specs.Tree.{Tree, numeral, symbol, nil, cons}
 use Rattle.arena.proofs.Texts.{is_within, is-past}
 use Rattle.shapes.specs.declared.shape.Found.{Found}
-use Rattle.shapes.specs.declared.look.Word.{Word}
-use Rattle.shapes.specs.declared.look.Index.{Index}
 use Rattle.shapes.specs.Shape.{Shape, made, indexed, on_bv, index_shape, word_shape, pair_shape}
 use Rattle.shapes.specs.Shows.{StandingAll, Reads, Shows, Placed, TwoAt, IndexAt, WordAt, IndexOf}
 use Rattle.shapes.proofs.Stood.{first_of, second-of, said-so, said-name}
 use Rattle.shapes.proofs.Seen.{seen-word}
 use Rattle.shapes.proofs.Arms.{not-symbol, not-numeral, shown_as}
+use Rattle.shapes.specs.declared.look.Index.{Index}
+use Rattle.shapes.specs.declared.look.Word.{Word}
 
 -- the text is read apart: its first two bytes, and the others
 bv_short {ℓ} : {A : Type ℓ} (g : List ℕ) (d : A) (k : List ℕ → A) → length g < 2 → on_bv g d k ≡ d
@@ -81,18 +82,18 @@ module _ (ws ts : List ℕ) (offset size first : ℕ) where
   two_made f a b r s = (f, cons a (cons b nil), refl, r, s)
 
   module _ (off long second : ℕ) (here : second ≡ after_at ws first) where
-    pub index-other : (w : Index) → IndexOf ws second w → w ≡ Index.NoNumeral → IndexAt ws ts offset size off long first (Found.Made offset size first 2)
+    pub index-other : (w : Option Index) → IndexOf ws second w → w ≡ None → IndexAt ws ts offset size off long first (Found.Made offset size first 2)
     index-other w h e = (
       refl,
       λ f g b r q s.
-          let n = subst (λ (x : Index). IndexOf ws second x) e h in
+          let n = subst (λ (x : Option Index). IndexOf ws second x) e h in
           shown_as ws ts (Found.Made offset size first 2) (index_shape f g b) (made f (cons (symbol g) (cons b nil)))
           (not-numeral b _ _ (n ts b (second-of ws ts first second here (symbol g) b s))) (two_made f (symbol g) b r s),
     )
 
-    module _ (w : Index) (low high : ℕ) (h : IndexOf ws second w) (e : w ≡ Index.Numeral low high) where
+    module _ (w : Option Index) (low high : ℕ) (h : IndexOf ws second w) (e : w ≡ Some (record { low = low; high = high })) where
       number : (a b : Tree) → StandingAll (cons a (cons b nil)) ws ts first 2 → b ≡ numeral (low + high * 2 ^ 64)
-      number a b s = subst (λ (x : Index). IndexOf ws second x) e h ts b (second-of ws ts first second here a b s)
+      number a b s = subst (λ (x : Option Index). IndexOf ws second x) e h ts b (second-of ws ts first second here a b s)
 
       abbrev Named : List ℕ → List ℕ → Tree → Shape
       Named f g b = made f (cons (symbol g) (cons b nil))
@@ -128,16 +129,16 @@ module _ (ws ts : List ℕ) (offset size first : ℕ) where
             (text_at ts (off + 2) (long - 2), ap (λ (x : Tree). index_shape f g x) (number (symbol g) b s) ∙ same, others-read ts off long g q l),
       )
 
-  pub pair-other : (w : Word) → WordAt ws first w → w ≡ Word.NoSymbol → TwoAt pair_shape ws ts offset size first (Found.Made offset size first 2)
+  pub pair-other : (w : Option Word) → WordAt ws first w → w ≡ None → TwoAt pair_shape ws ts offset size first (Found.Made offset size first 2)
   pair-other w h e = (
     refl,
     λ f a b r s.
-        let n = subst (λ (x : Word). WordAt ws first x) e h in
+        let n = subst (λ (x : Option Word). WordAt ws first x) e h in
         shown_as ws ts (Found.Made offset size first 2) (pair_shape f a b) (made f (cons a (cons b nil)))
         (not-symbol a _ _ (n ts a (first_of ws ts a (cons b nil) first 2 s))) (two_made f a b r s),
   )
 
-  module _ (w : Word) (off long : ℕ) (h : WordAt ws first w) (e : w ≡ Word.Symbol long off) where
+  module _ (w : Option Word) (off long : ℕ) (h : WordAt ws first w) (e : w ≡ Some (record { size = long; offset = off })) where
     so : (f : List ℕ) → Reads f ts offset size → (name : List ℕ) (t : Bool) → text_is ts offset size name ≡ t → same_text f name ≡ t
     so f r name t k = said-so ts offset size f r name t k
 

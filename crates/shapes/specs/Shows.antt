@@ -1,5 +1,5 @@
 -- Document 01, "Sorts and literals": what a shape found in the arena says of the trees that stand there.
-use Rattle.std.specs.Prelude.{◌≡◌, true, false, List, ℕ, suc, ◌+◌, ◌*◌, ◌^◌, ◌≤◌, ◌<◌, ◌%◌, ◌/◌, eqb, length}
+use Rattle.std.specs.Prelude.{◌≡◌, true, false, List, ℕ, suc, ◌+◌, ◌*◌, ◌^◌, ◌≤◌, ◌<◌, ◌%◌, ◌/◌, eqb, length, None, Option, Some}
 use Rattle.arena.specs.Layout.{stride}
 use Rattle.arena.specs.Node.{after_at}
 use Rattle.arena.specs.Stands.{TreeStands, StandAll}
@@ -8,11 +8,9 @@ use Rattle.arena.specs.Tree.{Tree, Trees, bit_vec, numeral, symbol, app, nil, co
 use Rattle.tables.specs.Sort.{Ext, decimal, datetime, duration}
 use Rattle.shapes.specs.declared.shape.Found.{Found}
 use Rattle.shapes.specs.declared.shape.Kind.{Kind}
-use Rattle.shapes.specs.declared.look.Word.{Word}
-use Rattle.shapes.specs.declared.look.Index.{Index}
-use Rattle.shapes.specs.declared.look.Wide.{Wide}
-use Rattle.shapes.specs.declared.look.Parts.{Parts}
 use Rattle.shapes.specs.Shape.{Shape, unary, binary, ite, uncovered, as_none, as_some, some_of, as_empty, singleton, union, extension, indexed, made, other, on_symbol, on_numeral, on_bit_vec, on_app, index_shape, applied, headed, shape}
+use Rattle.shapes.specs.declared.look.Index.{Index}
+use Rattle.shapes.specs.declared.look.Word.{Word}
 
 -- the tree stands at the node, wherever it and its text end
 pub record Standing (t : Tree) (ws ts : List ℕ) (i : ℕ) : Type 0 where
@@ -116,19 +114,19 @@ abbrev pub ByHeadAt : List ℕ → List ℕ → ℕ → ℕ → Found → Type 0
 ByHeadAt ws ts i many r = Placed ws (after_at ws i) r × ByHeadShows ws ts i many r
 
 -- what stands at the node, as far as it is looked at
-abbrev pub WordAt : List ℕ → ℕ → Word → Type 0
-WordAt ws i (Word.Symbol size offset) = (ts : List ℕ) (a : Tree) → Standing a ws ts i → (s : List ℕ) × (a ≡ symbol s) × Reads s ts offset size
-WordAt ws i Word.NoSymbol = (ts : List ℕ) (a : Tree) → Standing a ws ts i → on_symbol a false (λ s. true) ≡ false
+abbrev pub WordAt : List ℕ → ℕ → Option Word → Type 0
+WordAt ws i (Some it) = (ts : List ℕ) (a : Tree) → Standing a ws ts i → (s : List ℕ) × (a ≡ symbol s) × Reads s ts it.offset it.size
+WordAt ws i None = (ts : List ℕ) (a : Tree) → Standing a ws ts i → on_symbol a false (λ s. true) ≡ false
 
-abbrev pub IndexOf : List ℕ → ℕ → Index → Type 0
-IndexOf ws i (Index.Numeral low high) = (ts : List ℕ) (a : Tree) → Standing a ws ts i → a ≡ numeral (low + high * 2 ^ 64)
-IndexOf ws i Index.NoNumeral = (ts : List ℕ) (a : Tree) → Standing a ws ts i → on_numeral a false (λ n. true) ≡ false
+abbrev pub IndexOf : List ℕ → ℕ → Option Index → Type 0
+IndexOf ws i (Some it) = (ts : List ℕ) (a : Tree) → Standing a ws ts i → a ≡ numeral (it.low + it.high * 2 ^ 64)
+IndexOf ws i None = (ts : List ℕ) (a : Tree) → Standing a ws ts i → on_numeral a false (λ n. true) ≡ false
 
-abbrev pub WideAt : List ℕ → ℕ → Wide → Type 0
-WideAt ws i (Wide.Bits low) = (ts : List ℕ) (a : Tree) → Standing a ws ts i → (n : ℕ) × (a ≡ bit_vec 64 n) × (low ≡ n % 2 ^ 64)
-WideAt ws i Wide.NotWide = (ts : List ℕ) (a : Tree) → Standing a ws ts i → on_bit_vec a false (λ w n. eqb w 64) ≡ false
+abbrev pub WideAt : List ℕ → ℕ → Option ℕ → Type 0
+WideAt ws i (Some low) = (ts : List ℕ) (a : Tree) → Standing a ws ts i → (n : ℕ) × (a ≡ bit_vec 64 n) × (low ≡ n % 2 ^ 64)
+WideAt ws i None = (ts : List ℕ) (a : Tree) → Standing a ws ts i → on_bit_vec a false (λ w n. eqb w 64) ≡ false
 
-abbrev pub PartsAt : List ℕ → ℕ → Parts → Type 0
-PartsAt ws i (Parts.Children many) =
+abbrev pub PartsAt : List ℕ → ℕ → Option ℕ → Type 0
+PartsAt ws i (Some many) =
     (i < length ws / stride) × ((ts : List ℕ) (a : Tree) → Standing a ws ts i → (us : Trees) × (a ≡ app us) × StandingAll us ws ts (i + 1) many)
-PartsAt ws i Parts.NoList = (ts : List ℕ) (a : Tree) → Standing a ws ts i → on_app a false (λ us. true) ≡ false
+PartsAt ws i None = (ts : List ℕ) (a : Tree) → Standing a ws ts i → on_app a false (λ us. true) ≡ false

@@ -5,6 +5,6 @@ mod look;
 mod shape;
 mod sort;
 
-pub use look::{Parts, Word, list_at, symbol_at};
+pub use look::{Word, list_at, symbol_at};
 pub use shape::{BinaryOp, Found, Kind, UnaryOp, shape_at};
 pub use sort::{SortFound, sort_shape_at};

@@ -4,115 +4,52 @@ ghost use Rattle.shapes.specs.Shows.{WordAt, IndexOf, WideAt, PartsAt};
 use arena::{Node, node_at};
 
 #[derive(Clone, Copy)]
-pub enum Word {
-    Symbol { size: u64, offset: u64 },
-    NoSymbol,
+pub struct Word {
+    pub size: u64,
+    pub offset: u64,
 }
 
 #[derive(Clone, Copy)]
-pub enum Index {
-    Numeral { low: u64, high: u64 },
-    NoNumeral,
+pub struct Index {
+    pub low: u64,
+    pub high: u64,
 }
 
-#[derive(Clone, Copy)]
-pub enum Wide {
-    Bits(u64),
-    NotWide,
-}
-
-// How many children an application has.
-#[derive(Clone, Copy)]
-pub enum Parts {
-    Children(u64),
-    NoList,
-}
-
-pub fn symbol_at(nodes: &[u64], at: usize) -> Word
+pub fn symbol_at(nodes: &[u64], at: usize) -> Option<Word>
     ensures { WordAt nodes.now at result }
 {
-    let node = node_at(nodes, at);
-    match node {
-        Node::BitVec {
-            width: _,
-            low: _,
-            high: _,
-        } => Word::NoSymbol,
-        Node::Numeral { low: _, high: _ } => Word::NoSymbol,
-        Node::String { size: _, offset: _ } => Word::NoSymbol,
-        Node::Symbol { size, offset } => Word::Symbol { size, offset },
-        Node::App {
-            children: _,
-            end: _,
-        } => Word::NoSymbol,
-        Node::NoNode => Word::NoSymbol,
+    match node_at(nodes, at) {
+        Node::Symbol { size, offset } => Some(Word { size, offset }),
+        _ => None,
     }
 }
 
-pub fn numeral_at(nodes: &[u64], at: usize) -> Index
+pub fn numeral_at(nodes: &[u64], at: usize) -> Option<Index>
     ensures { IndexOf nodes.now at result }
 {
-    let node = node_at(nodes, at);
-    match node {
-        Node::BitVec {
-            width: _,
-            low: _,
-            high: _,
-        } => Index::NoNumeral,
-        Node::Numeral { low, high } => Index::Numeral { low, high },
-        Node::String { size: _, offset: _ } => Index::NoNumeral,
-        Node::Symbol { size: _, offset: _ } => Index::NoNumeral,
-        Node::App {
-            children: _,
-            end: _,
-        } => Index::NoNumeral,
-        Node::NoNode => Index::NoNumeral,
+    match node_at(nodes, at) {
+        Node::Numeral { low, high } => Some(Index { low, high }),
+        _ => None,
     }
 }
 
 // How wide a bit vector is that holds a signed 64-bit number.
 const SIXTY_FOUR: u64 = 64;
 
-pub fn wide_at(nodes: &[u64], at: usize) -> Wide
+pub fn wide_at(nodes: &[u64], at: usize) -> Option<u64>
     ensures { WideAt nodes.now at result }
 {
-    let node = node_at(nodes, at);
-    match node {
-        Node::BitVec {
-            width,
-            low,
-            high: _,
-        } => {
-            if width == SIXTY_FOUR {
-                return Wide::Bits(low);
-            }
-            Wide::NotWide
-        }
-        Node::Numeral { low: _, high: _ } => Wide::NotWide,
-        Node::String { size: _, offset: _ } => Wide::NotWide,
-        Node::Symbol { size: _, offset: _ } => Wide::NotWide,
-        Node::App {
-            children: _,
-            end: _,
-        } => Wide::NotWide,
-        Node::NoNode => Wide::NotWide,
+    match node_at(nodes, at) {
+        Node::BitVec { width, low, .. } if width == SIXTY_FOUR => Some(low),
+        _ => None,
     }
 }
 
-pub fn list_at(nodes: &[u64], at: usize) -> Parts
+pub fn list_at(nodes: &[u64], at: usize) -> Option<u64>
     ensures { PartsAt nodes.now at result }
 {
-    let node = node_at(nodes, at);
-    match node {
-        Node::BitVec {
-            width: _,
-            low: _,
-            high: _,
-        } => Parts::NoList,
-        Node::Numeral { low: _, high: _ } => Parts::NoList,
-        Node::String { size: _, offset: _ } => Parts::NoList,
-        Node::Symbol { size: _, offset: _ } => Parts::NoList,
-        Node::App { children, end: _ } => Parts::Children(children),
-        Node::NoNode => Parts::NoList,
+    match node_at(nodes, at) {
+        Node::App { children, .. } => Some(children),
+        _ => None,
     }
 }

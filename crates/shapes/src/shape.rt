@@ -2,7 +2,7 @@
 ghost use Rattle.shapes.specs.Shape.{one, two, ext_shape, pair_shape};
 ghost use Rattle.shapes.specs.Shows.{ShapeAt, AppliedAt, OneAt, TwoAt, IndexAt, HeadedAt, ByHeadAt};
 
-use crate::look::{Index, Parts, Wide, Word, list_at, numeral_at, symbol_at, wide_at};
+use crate::look::{Index, list_at, numeral_at, symbol_at, wide_at};
 use arena::{Node, after, node_at, text_is};
 
 // The sorts that hold a signed 64-bit number.
@@ -89,15 +89,14 @@ pub enum Found {
 fn extension(nodes: &[u64], text: &[u8], offset: u64, size: u64, first: usize) -> Found
     ensures { OneAt ext_shape nodes.now text.now offset size first result }
 {
-    let count = 1;
-    let wide = wide_at(nodes, first);
-    let Wide::Bits(low) = wide else {
-        return Found::Made {
-            offset,
-            size,
-            first,
-            count,
-        };
+    let made = Found::Made {
+        offset,
+        size,
+        first,
+        count: 1,
+    };
+    let Some(low) = wide_at(nodes, first) else {
+        return made;
     };
     if text_is(text, offset, size, b"Decimal") {
         return Found::Extension {
@@ -117,12 +116,7 @@ fn extension(nodes: &[u64], text: &[u8], offset: u64, size: u64, first: usize) -
             low,
         };
     }
-    Found::Made {
-        offset,
-        size,
-        first,
-        count,
-    }
+    made
 }
 
 // (f a)
@@ -162,26 +156,17 @@ fn index(
 ) -> Found
     ensures { IndexAt nodes.now text.now offset size off long first result }
 {
-    let count = 2;
-    let second = after(nodes, first);
-    let index = numeral_at(nodes, second);
-    let Index::Numeral { low, high } = index else {
-        return Found::Made {
-            offset,
-            size,
-            first,
-            count,
-        };
+    let made = Found::Made {
+        offset,
+        size,
+        first,
+        count: 2,
     };
-    if long < 2 {
-        return Found::Made {
-            offset,
-            size,
-            first,
-            count,
-        };
-    }
-    if text_is(text, off, 2, b"bv") {
+    let second = after(nodes, first);
+    let Some(Index { low, high }) = numeral_at(nodes, second) else {
+        return made;
+    };
+    if 2 <= long && text_is(text, off, 2, b"bv") {
         return Found::Indexed {
             offset: off + 2,
             size: long - 2,
@@ -189,50 +174,35 @@ fn index(
             high,
         };
     }
-    Found::Made {
-        offset,
-        size,
-        first,
-        count,
-    }
+    made
 }
 
 // (as none T), (as set.empty T), (_ bvN W), or a name's application.
 fn worded(nodes: &[u64], text: &[u8], offset: u64, size: u64, first: usize) -> Found
     ensures { TwoAt pair_shape nodes.now text.now offset size first result }
 {
-    let count = 2;
-    let word = symbol_at(nodes, first);
-    let Word::Symbol {
-        size: long,
-        offset: off,
-    } = word
-    else {
-        return Found::Made {
-            offset,
-            size,
-            first,
-            count,
-        };
-    };
-    if text_is(text, offset, size, b"_") {
-        return index(nodes, text, offset, size, off, long, first);
-    }
-    if text_is(text, offset, size, b"as") {
-        let sort = after(nodes, first);
-        if text_is(text, off, long, b"none") {
-            return Found::AsNone { sort };
-        }
-        if text_is(text, off, long, b"set.empty") {
-            return Found::AsEmpty { sort };
-        }
-    }
-    Found::Made {
+    let made = Found::Made {
         offset,
         size,
         first,
-        count,
+        count: 2,
+    };
+    let Some(word) = symbol_at(nodes, first) else {
+        return made;
+    };
+    if text_is(text, offset, size, b"_") {
+        return index(nodes, text, offset, size, word.offset, word.size, first);
     }
+    if text_is(text, offset, size, b"as") {
+        let sort = after(nodes, first);
+        if text_is(text, word.offset, word.size, b"none") {
+            return Found::AsNone { sort };
+        }
+        if text_is(text, word.offset, word.size, b"set.empty") {
+            return Found::AsEmpty { sort };
+        }
+    }
+    made
 }
 
 // (f a b)
@@ -274,10 +244,7 @@ fn two(nodes: &[u64], text: &[u8], offset: u64, size: u64, first: usize) -> Foun
             right: second,
         };
     }
-    if text_is(text, offset, size, b"V4") {
-        return Found::Uncovered;
-    }
-    if text_is(text, offset, size, b"V6") {
+    if text_is(text, offset, size, b"V4") || text_is(text, offset, size, b"V6") {
         return Found::Uncovered;
     }
     worded(nodes, text, offset, size, first)
@@ -287,28 +254,24 @@ fn two(nodes: &[u64], text: &[u8], offset: u64, size: u64, first: usize) -> Foun
 fn applied(nodes: &[u64], text: &[u8], offset: u64, size: u64, first: usize, count: u64) -> Found
     ensures { AppliedAt nodes.now text.now offset size first count result }
 {
-    if count == 1 {
-        return one(nodes, text, offset, size, first);
-    }
-    if count == 2 {
-        return two(nodes, text, offset, size, first);
-    }
-    if count == 3 {
-        if text_is(text, offset, size, b"ite") {
+    match count {
+        1 => one(nodes, text, offset, size, first),
+        2 => two(nodes, text, offset, size, first),
+        3 if text_is(text, offset, size, b"ite") => {
             let left = after(nodes, first);
             let right = after(nodes, left);
-            return Found::Ite {
+            Found::Ite {
                 condition: first,
                 left,
                 right,
-            };
+            }
         }
-    }
-    Found::Made {
-        offset,
-        size,
-        first,
-        count,
+        _ => Found::Made {
+            offset,
+            size,
+            first,
+            count,
+        },
     }
 }
 
@@ -316,30 +279,21 @@ fn applied(nodes: &[u64], text: &[u8], offset: u64, size: u64, first: usize, cou
 fn headed(nodes: &[u64], text: &[u8], inner: usize, parts: u64, value: usize, count: u64) -> Found
     ensures { HeadedAt nodes.now text.now inner parts value count result }
 {
-    if parts != 3 {
+    if parts != 3 || count != 1 {
         return Found::Other;
     }
-    if count != 1 {
-        return Found::Other;
-    }
-    let word = symbol_at(nodes, inner);
-    let Word::Symbol { size, offset } = word else {
+    let Some(word) = symbol_at(nodes, inner) else {
         return Found::Other;
     };
-    if text_is(text, offset, size, b"as") {
-        let second = after(nodes, inner);
-        let next = symbol_at(nodes, second);
-        let Word::Symbol {
-            size: long,
-            offset: off,
-        } = next
-        else {
-            return Found::Other;
-        };
-        if text_is(text, off, long, b"some") {
-            let sort = after(nodes, second);
-            return Found::AsSome { sort, value };
-        }
+    let second = after(nodes, inner);
+    let Some(next) = symbol_at(nodes, second) else {
+        return Found::Other;
+    };
+    if text_is(text, word.offset, word.size, b"as")
+        && text_is(text, next.offset, next.size, b"some")
+    {
+        let sort = after(nodes, second);
+        return Found::AsSome { sort, value };
     }
     Found::Other
 }
@@ -348,18 +302,10 @@ fn headed(nodes: &[u64], text: &[u8], inner: usize, parts: u64, value: usize, co
 fn by_head(nodes: &[u64], text: &[u8], at: usize, count: u64) -> Found
     ensures { ByHeadAt nodes.now text.now at count result }
 {
-    let head = node_at(nodes, at);
-    match head {
-        Node::BitVec {
-            width: _,
-            low: _,
-            high: _,
-        } => Found::Other,
-        Node::Numeral { low: _, high: _ } => Found::Other,
-        Node::String { size: _, offset: _ } => Found::Other,
+    match node_at(nodes, at) {
         Node::Symbol { size, offset } => applied(nodes, text, offset, size, at + 1, count),
         Node::App { children, end } => headed(nodes, text, at + 1, children, end as usize, count),
-        Node::NoNode => Found::Other,
+        _ => Found::Other,
     }
 }
 
@@ -367,8 +313,7 @@ fn by_head(nodes: &[u64], text: &[u8], at: usize, count: u64) -> Found
 pub fn shape_at(nodes: &[u64], text: &[u8], at: usize) -> Found
     ensures { ShapeAt nodes.now text.now at result }
 {
-    let list = list_at(nodes, at);
-    let Parts::Children(count) = list else {
+    let Some(count) = list_at(nodes, at) else {
         return Found::Other;
     };
     if count == 0 {

@@ -1,7 +1,7 @@
 // The shape of a written sort: a word, `(_ BitVec n)`, `(Option T)`, `(Set T)`, or none.
 ghost use Rattle.shapes.specs.SortShape.{SortShapeAt, SortListAt, SortOneAt, SortTwoAt};
 
-use crate::look::{Index, Parts, Word, list_at, numeral_at, symbol_at};
+use crate::look::{Index, Word, list_at, numeral_at, symbol_at};
 use arena::{after, text_is};
 
 // A width is two words, the low one first.
@@ -31,22 +31,15 @@ fn sort_one(nodes: &[u64], text: &[u8], offset: u64, size: u64, first: usize) ->
 fn sort_two(nodes: &[u64], text: &[u8], offset: u64, size: u64, first: usize) -> SortFound
     ensures { SortTwoAt nodes.now text.now offset size first result }
 {
-    let word = symbol_at(nodes, first);
-    let Word::Symbol {
-        size: long,
-        offset: off,
-    } = word
-    else {
+    let Some(word) = symbol_at(nodes, first) else {
         return SortFound::NoSort;
     };
-    let index = numeral_at(nodes, after(nodes, first));
-    let Index::Numeral { low, high } = index else {
+    let second = after(nodes, first);
+    let Some(Index { low, high }) = numeral_at(nodes, second) else {
         return SortFound::NoSort;
     };
-    if text_is(text, offset, size, b"_") {
-        if text_is(text, off, long, b"BitVec") {
-            return SortFound::Width { low, high };
-        }
+    if text_is(text, offset, size, b"_") && text_is(text, word.offset, word.size, b"BitVec") {
+        return SortFound::Width { low, high };
     }
     SortFound::NoSort
 }
@@ -58,33 +51,26 @@ fn sort_list(nodes: &[u64], text: &[u8], at: usize, count: u64) -> SortFound
     if count == 0 {
         return SortFound::NoSort;
     }
-    let word = symbol_at(nodes, at);
-    let Word::Symbol { size, offset } = word else {
+    let Some(Word { size, offset }) = symbol_at(nodes, at) else {
         return SortFound::NoSort;
     };
     let first = after(nodes, at);
-    if count == 2 {
-        return sort_one(nodes, text, offset, size, first);
+    match count {
+        2 => sort_one(nodes, text, offset, size, first),
+        3 => sort_two(nodes, text, offset, size, first),
+        _ => SortFound::NoSort,
     }
-    if count == 3 {
-        return sort_two(nodes, text, offset, size, first);
-    }
-    SortFound::NoSort
 }
 
 // The shape of the sort that is written at a node.
 pub fn sort_shape_at(nodes: &[u64], text: &[u8], at: usize) -> SortFound
     ensures { SortShapeAt nodes.now text.now at result }
 {
-    let word = symbol_at(nodes, at);
-    match word {
-        Word::Symbol { size, offset } => SortFound::Word { offset, size },
-        Word::NoSymbol => {
-            let list = list_at(nodes, at);
-            let Parts::Children(count) = list else {
-                return SortFound::NoSort;
-            };
-            sort_list(nodes, text, at + 1, count)
-        }
+    if let Some(Word { size, offset }) = symbol_at(nodes, at) {
+        return SortFound::Word { offset, size };
     }
+    let Some(count) = list_at(nodes, at) else {
+        return SortFound::NoSort;
+    };
+    sort_list(nodes, text, at + 1, count)
 }

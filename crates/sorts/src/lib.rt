@@ -3,4 +3,4 @@
 
 mod sort;
 
-pub use sort::{LEVELS, Sorted, read_sort, row_of};
+pub use sort::{LEVELS, read_sort, row_of};

@@ -6,29 +6,19 @@ ghost use Rattle.sorts.specs.Reads.{RowOf, WordSort, WidthSort, ReadsSort};
 use arena::same;
 use refusals::Refusal;
 use shapes::{SortFound, sort_shape_at};
-use tables::{Found, Wanted, clamp, find_sort, find_sort_name};
-
-#[derive(Clone, Copy)]
-pub enum Sorted {
-    Row(usize),
-    Refused(Refusal),
-}
+use tables::{Wanted, clamp, find_sort, find_sort_name};
 
 // How many levels may be read: the outermost sort or value, and 1,023 below it.
 pub const LEVELS: usize = 1024;
 
 // The row of a sort that is met or formed.
-pub fn row_of(sorts: &[u64], wanted: Wanted) -> Sorted
+pub fn row_of(sorts: &[u64], wanted: Wanted) -> Result<usize, Refusal>
     ensures { RowOf sorts.now wanted result }
 {
-    let found = find_sort(sorts, wanted);
-    match found {
-        Found::Row(row) => Sorted::Row(row),
-        Found::NoRow => Sorted::Refused(Refusal::NoSortRow),
-    }
+    find_sort(sorts, wanted).ok_or(Refusal::NoSortRow)
 }
 
-fn sort_word(sorts: &[u64], names: &[u8], name: &[u8]) -> Sorted
+fn sort_word(sorts: &[u64], names: &[u8], name: &[u8]) -> Result<usize, Refusal>
     ensures { WordSort sorts.now names.now name.now result }
 {
     if same(name, b"Bool") {
@@ -46,38 +36,35 @@ fn sort_word(sorts: &[u64], names: &[u8], name: &[u8]) -> Sorted
     if same(name, b"Duration") {
         return row_of(sorts, Wanted::Duration);
     }
-    let found = find_sort_name(sorts, names, name);
-    match found {
-        Found::Row(row) => Sorted::Row(row),
-        Found::NoRow => Sorted::Refused(Refusal::UnknownType),
-    }
+    find_sort_name(sorts, names, name).ok_or(Refusal::UnknownType)
 }
 
 // The first width that a written sort cannot have.
-const WIDE: u64 = 4294967296;
+const WIDE: u64 = 1 << 32;
 
-fn sort_width(sorts: &[u64], low: u64, high: u64) -> Sorted
+fn sort_width(sorts: &[u64], low: u64, high: u64) -> Result<usize, Refusal>
     ensures { WidthSort sorts.now (low + high * 2 ^ 64) result }
 {
-    if high != 0 {
-        return Sorted::Refused(Refusal::IntegerOverflow);
-    }
-    if WIDE <= low {
-        return Sorted::Refused(Refusal::IntegerOverflow);
+    if high != 0 || WIDE <= low {
+        return Err(Refusal::IntegerOverflow);
     }
     if low == 0 {
-        return Sorted::Refused(Refusal::ZeroWidthBitVec);
+        return Err(Refusal::ZeroWidthBitVec);
     }
     row_of(sorts, Wanted::BitVec(low))
 }
 
-fn word_at(sorts: &[u64], names: &[u8], text: &[u8], offset: u64, size: u64) -> Sorted
+fn word_at(
+    sorts: &[u64],
+    names: &[u8],
+    text: &[u8],
+    offset: u64,
+    size: u64,
+) -> Result<usize, Refusal>
     ensures { WordSort sorts.now names.now (text_at text.now offset size) result }
 {
     let range = clamp(offset, size, text.len());
-    let start = range.start;
-    let end = range.end;
-    sort_word(sorts, names, &text[start..end])
+    sort_word(sorts, names, &text[range.start..range.end])
 }
 
 pub fn read_sort(
@@ -87,30 +74,23 @@ pub fn read_sort(
     text: &[u8],
     at: usize,
     allow: usize,
-) -> Sorted
+) -> Result<usize, Refusal>
     ensures { ReadsSort sorts.now names.now nodes.now text.now at allow result }
 {
     if allow == 0 {
-        return Sorted::Refused(Refusal::TooNested);
+        return Err(Refusal::TooNested);
     }
-    let shape = sort_shape_at(nodes, text, at);
-    match shape {
+    match sort_shape_at(nodes, text, at) {
         SortFound::Word { offset, size } => word_at(sorts, names, text, offset, size),
         SortFound::Width { low, high } => sort_width(sorts, low, high),
         SortFound::OptionOf(inner) => {
-            let below = read_sort(sorts, names, nodes, text, inner, allow - 1);
-            match below {
-                Sorted::Row(row) => row_of(sorts, Wanted::Option(row as u64)),
-                Sorted::Refused(refusal) => Sorted::Refused(refusal),
-            }
+            let row = read_sort(sorts, names, nodes, text, inner, allow - 1)?;
+            row_of(sorts, Wanted::Option(row as u64))
         }
         SortFound::SetOf(inner) => {
-            let below = read_sort(sorts, names, nodes, text, inner, allow - 1);
-            match below {
-                Sorted::Row(row) => row_of(sorts, Wanted::Set(row as u64)),
-                Sorted::Refused(refusal) => Sorted::Refused(refusal),
-            }
+            let row = read_sort(sorts, names, nodes, text, inner, allow - 1)?;
+            row_of(sorts, Wanted::Set(row as u64))
         }
-        SortFound::NoSort => Sorted::Refused(Refusal::UnknownType),
+        SortFound::NoSort => Err(Refusal::UnknownType),
     }
 }

@@ -1,5 +1,6 @@
 -- Numerals, `#x` and `#b`: each is one token with its number.
 -- Assumes nothing.
+use Rattle.std.proofs.Common.{Ok, Result}
 use mathlib.Core.Path.{◌≡◌, refl, sym, ap, ◌∙◌}
 use mathlib.Core.Bool.{true, not, false≢true}
 use mathlib.Core.List.{List, [], ◌∷◌, ◌++◌}
@@ -12,8 +13,6 @@ use borrow.Author.Tests.{eqb-true, lt-ltb}
 use Rattle.ground.proofs.Tests.{both_left, both_right}
 use Rattle.words.specs.declared.digits.Radix.{Radix}
 use Rattle.words.specs.declared.digits.Radix.TheVariants.{Binary, Decimal, Hexadecimal}
-use Rattle.words.specs.declared.digits.Parsed.{Parsed}
-use Rattle.words.specs.declared.digits.Parsed.TheVariants.{Number}
 use Rattle.words.specs.Pair.{pair_of}
 use Rattle.words.specs.Radix.{base_of, worth, is_digit}
 use Rattle.words.specs.Run as Run
@@ -30,16 +29,18 @@ use Rattle.standard.specs.Bytes.{among, from, enders, binary_digits, decimal_dig
 use Rattle.standard.specs.Written.{run, is_numeral, ended}
 use Rattle.standard.proofs.Runs.{pass, pass_all, span_run}
 use Rattle.standard.proofs.Separators.{one_piece, at_class}
+use Rattle.refusals.specs.declared.Refusal.{Refusal}
+use Rattle.words.specs.declared.pair.Pair.{Pair}
 
 -- a run of digits below 2^128 is a number
 module _ (r : Radix) (ds : List ℕ) (nonzero : some_byte ds ≡ true) (each : all (is_digit r) ds ≡ true) (small : Run.number (base_of r) ds < 2 ^ 128) where
-  parsed-is : parsed r ds ≡ Number (pair_of (Run.number (base_of r) ds))
+  parsed-is : parsed r ds ≡ Ok (pair_of (Run.number (base_of r) ds))
   unfolding parsed
   parsed-is = rw (nonzero, each, lt-ltb (Run.number (base_of r) ds) (2 ^ 128) small)
 
   from_is : (make : ℕ → Atom) → from_parsed (parsed r ds) make ≡ token (atom (make (Run.number (base_of r) ds)))
   from_is make =
-      ap (λ (p : Parsed). from_parsed p make) parsed-is ∙ ap (λ (n : ℕ). token (atom (make n))) (value-pair (Run.number (base_of r) ds))
+      ap (λ (p : Result Pair Refusal). from_parsed p make) parsed-is ∙ ap (λ (n : ℕ). token (atom (make n))) (value-pair (Run.number (base_of r) ds))
 
 -- no digit ends an atom
 stop : (r : Radix) → all (λ b. not (is_digit r b)) enders ≡ true

@@ -1,8 +1,10 @@
 -- Every need that these calls tell is below 2 ^ 56, so that a refusal's word tells its number and its detail exactly.
 -- Assumes nothing.
+use Rattle.std.specs.Prelude.{⊤}
+use Rattle.std.proofs.Common.{Result}
 use mathlib.Core.Path.{◌≡◌, refl}
 use mathlib.Core.List.{List}
-use Prim.Native.Nat.{ℕ, ◌-◌, ◌/◌, ◌^◌, ◌≤◌, ◌<◌}
+use Prim.Native.Nat.{ℕ, ◌/◌, ◌^◌, ◌≤◌, ◌<◌}
 use native.Mathlib.Omega.{arith}
 use lib.Dec.{leb}
 use lib.ListN.{length}
@@ -18,17 +20,16 @@ use Rattle.arena.specs.Tree.{Tree, Trees, bit_vec, numeral, string, symbol, app,
 use Rattle.arena.specs.Tree as arena
 use Rattle.arena.specs.Layout.{stride}
 use Rattle.brackets.specs.Walk.{Outcome, tree, refused}
-use Rattle.tokens.specs.declared.lexeme.Kind.TheVariants as K
 use Rattle.refusals.specs.Limit.{input_limit}
 use Rattle.reader.specs.Read.{parse, fitted, settled, reading}
 use Rattle.reader.specs.Read as reader
 use Rattle.reader.proofs.Bounds.{accepted-small}
 use Rattle.reader.proofs.Faults.{parse_unstarred}
-use Rattle.tables.specs.declared.check.Checked.{Checked}
 use Rattle.tables.specs.Layout.{Lent}
 use Rattle.tables.specs.Check as tables
 use Rattle.told.specs.Tells.{Yield, yields, refuses}
 use Rattle.told.specs.Yields.{written, read, passed}
+use Rattle.refusals.specs.declared.Refusal.{Refusal}
 
 abbrev pub Small : Yield → Type 0
 Small (yields ns) = Unit {0}
@@ -82,4 +83,4 @@ reading_small N T S s bytes =
     (λ h. rw (le-leb (length s) input_limit h) (settled-small N T S s bytes h (parse s) refl))
 
 pub tables-small : (l : Lent) → Small (passed (tables.checked l))
-tables-small l = by_cond (λ (c : Checked). Small (passed c)) (tables.passes l) _ _ (λ _. tt) (λ _. omega arith)
+tables-small l = by_cond (λ (c : Result ⊤ Refusal). Small (passed c)) (tables.passes l) _ _ (λ _. tt) (λ _. omega arith)

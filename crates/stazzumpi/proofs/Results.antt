@@ -1,5 +1,6 @@
 -- What an exported call leaves, by the call that it exports; and that it can leave nothing else.
 -- Assumes nothing.
+use Rattle.std.proofs.Common.{Option, Result}
 use mathlib.Core.Path.{◌≡◌, refl, ap, ap₂, subst}
 use mathlib.Core.List.{List, [], ◌∷◌}
 use Prim.Native.Nat.{ℕ, ◌≤◌, ◌<◌}
@@ -8,12 +9,9 @@ use lib.ListN.{length}
 use borrow.Author.Tests.{le-leb, lt-leb}
 use Rattle.ground.proofs.Tests.{one-result, by_order}
 use Rattle.refusals.specs.declared.Refusal.TheVariants.{OutRoom}
-use Rattle.lent.specs.declared.Written.{Written}
 use Rattle.lent.specs.Left as lent
-use Rattle.reader.specs.declared.read.Reading.{Reading}
 use Rattle.reader.specs.Read as reader
 use Rattle.arena_check.proofs.Answers.{one-check}
-use Rattle.tables.specs.declared.find.Found.{Found}
 use Rattle.tables.specs.Layout.{Lent}
 use Rattle.tables.specs.Lookup.{FindsVariable, FindsFunction, FindsMember, FindsNamed}
 use Rattle.tables.proofs.One.{one-variable, one_function, one-member, one-named}
@@ -28,6 +26,8 @@ use Rattle.stazzumpi.specs.Exports.{Left, exported, Exports, Promises}
 use Rattle.stazzumpi.specs.Kind.{FindsKind}
 use Rattle.stazzumpi.specs.Outs.{writes, reads, ChecksOut, ReadsOut, LooksUp, ListsOut}
 use Rattle.stazzumpi.proofs.ByKind.{one-kind}
+use Rattle.reader.specs.declared.read.Reading.{Reading}
+use Rattle.refusals.specs.declared.Refusal.{Refusal}
 
 module _ (need : ℕ) (told : List ℕ) (buffers : List (List ℕ)) (left : Left) where
   pub exports_short : (r : ℕ) → length told < need → r ≡ code_of (OutRoom need) → Exports told (exported need told buffers left) r told buffers
@@ -40,15 +40,15 @@ module _ (need : ℕ) (told : List ℕ) (buffers : List (List ℕ)) (left : Left
   exports_call h t l = rw (le-leb need (length told) h) (record { tells = t; lent = l })
 
 -- every call that writes a text
-pub exports_written : (told : List ℕ) (buffers : List (List ℕ)) (left : lent.Left) {answer : Written} {r : ℕ} {exit out : List ℕ}
+pub exports_written : (told : List ℕ) (buffers : List (List ℕ)) (left : lent.Left) {answer : Result ℕ Refusal} {r : ℕ} {exit out : List ℕ}
     → 1 ≤ length told → lent.Leaves left answer out → Tells (written answer) told r exit → Exports told (exported 1 told buffers (writes left)) r exit (out ∷ [])
 exports_written told buffers left {answer} {r} {exit} {out} h l t =
-    exports_call 1 told buffers (writes left) h (subst (λ (a : Written). Tells (written a) told r exit) l.answers t) (ap (λ (d : List ℕ). d ∷ []) l.holds)
+    exports_call 1 told buffers (writes left) h (subst (λ (a : Result ℕ Refusal). Tells (written a) told r exit) l.answers t) (ap (λ (d : List ℕ). d ∷ []) l.holds)
 
-pub exports_read : (told : List ℕ) (buffers : List (List ℕ)) (left : reader.Left) {answer : Reading} {r : ℕ} {exit N T S : List ℕ}
+pub exports_read : (told : List ℕ) (buffers : List (List ℕ)) (left : reader.Left) {answer : Result Reading Refusal} {r : ℕ} {exit N T S : List ℕ}
     → 3 ≤ length told → reader.Leaves left answer N T S → Tells (read answer) told r exit → Exports told (exported 3 told buffers (reads left)) r exit (N ∷ T ∷ S ∷ [])
 exports_read told buffers left {answer} {r} {exit} {N} {T} {S} h l t =
-    exports_call 3 told buffers (reads left) h (subst (λ (a : Reading). Tells (read a) told r exit) l.answers t)
+    exports_call 3 told buffers (reads left) h (subst (λ (a : Result Reading Refusal). Tells (read a) told r exit) l.answers t)
     (ap₂ (λ (x : List ℕ) (y : List (List ℕ)). x ∷ y) l.nodes (ap₂ (λ (x y : List ℕ). x ∷ y ∷ []) l.text l.stack))
 
 -- every call whose promise is a relation
@@ -97,7 +97,7 @@ pub one-listing-out : {form : Form} {l : Lent} {ws ts out told x y : List ℕ} {
 one-listing-out {form} {l} {ws} {ts} {out} {told} {x} {y} p q = one_promise (λ a b s t. one-listing form l ws ts out a b x y s t) p q
 
 -- every lookup, by the law of the call that is exported
-pub one-lookup : {finds : Found → Type 0} {told : List ℕ} {r q : ℕ} {d e : List ℕ} → ((a b : Found) → finds a → finds b → a ≡ b)
+pub one-lookup : {finds : Option ℕ → Type 0} {told : List ℕ} {r q : ℕ} {d e : List ℕ} → ((a b : Option ℕ) → finds a → finds b → a ≡ b)
     → LooksUp finds told r d → LooksUp finds told q e → (r ≡ q) × (d ≡ e)
 one-lookup one x y =
     let z = one_promise (λ a b p q. (one a b p q, refl)) x y in

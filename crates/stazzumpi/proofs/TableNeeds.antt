@@ -1,5 +1,6 @@
 -- The needs that reading the tables' text tells are below 2 ^ 56: they are the words of lawful tables.
 -- Assumes nothing.
+use Rattle.std.proofs.Common.{Result}
 use mathlib.Core.Path.{◌≡◌, refl, sym, subst}
 use mathlib.Core.Bool.{true, ◌&&◌}
 use mathlib.Core.List.{List, [], ◌∷◌}
@@ -14,7 +15,6 @@ use Rattle.tables.specs.Sort.{Sort, bool, string, ext, bit_vec, option_of, set_o
 use Rattle.tables.specs.Layout.{Lent}
 use Rattle.tables.specs.Rules.{field_limit, own_name, sort_right, sorts_right}
 use Rattle.tables.proofs.Lawful.{lawful-parts}
-use Rattle.tables_text.specs.declared.read.TablesRead.{TablesRead}
 use Rattle.tables_text.specs.Line.{variable_line, function_line, member_line}
 use Rattle.tables_text.specs.Words.{fields_of, all_fields, variable_words, function_words, member_words, variables_at, functions_at, members_at, laid}
 use Rattle.tables_text.specs.Read.{text_limit, Spells, Buffers, Left, fitted, Reads}
@@ -22,6 +22,8 @@ use Rattle.tables_text.proofs.Parses.{table-long, sorts-long}
 use Rattle.tables_text.proofs.Readings.{by-spelling}
 use Rattle.told.specs.Yields.{tables_read}
 use Rattle.stazzumpi.proofs.Needs.{Small}
+use Rattle.refusals.specs.declared.Refusal.{Refusal}
+use Rattle.tables_text.specs.declared.parse.Counts.{Counts}
 
 fields-few : (i : ℕ) (s : Sort) → sort_right i s ≡ true → length (fields_of s) ≤ field_limit
 fields-few i bool h = omega arith
@@ -81,11 +83,11 @@ fitted-small entry l few =
     (λ _. few.fields))
     (λ _. few.sorts)
 
-pub read-tables-small : (text : List ℕ) (entry : Buffers) (r : TablesRead) (exit : Buffers) → Reads text entry r exit → Small (tables_read r)
+pub read-tables-small : (text : List ℕ) (entry : Buffers) (r : Result Counts Refusal) (exit : Buffers) → Reads text entry r exit → Small (tables_read r)
 read-tables-small text entry r exit d =
     by_order text_limit (length text)
-    (λ h. subst (λ (a : TablesRead). Small (tables_read a)) (sym (d.long h).answers) (omega arith))
+    (λ h. subst (λ (a : Result Counts Refusal). Small (tables_read a)) (sym (d.long h).answers) (omega arith))
     (λ h.
     by-spelling text
-    (λ t s. subst (λ (a : TablesRead). Small (tables_read a)) (sym (d.spelled h t s).answers) (fitted-small entry (laid t text) (laid-few text t s)))
-    (λ never. subst (λ (a : TablesRead). Small (tables_read a)) (sym (d.other h never).answers) (omega arith)))
+    (λ t s. subst (λ (a : Result Counts Refusal). Small (tables_read a)) (sym (d.spelled h t s).answers) (fitted-small entry (laid t text) (laid-few text t s)))
+    (λ never. subst (λ (a : Result Counts Refusal). Small (tables_read a)) (sym (d.other h never).answers) (omega arith)))

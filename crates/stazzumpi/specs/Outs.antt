@@ -1,9 +1,8 @@
 -- Document 01, "Numbers given back": each kind of call, exported.
-use Rattle.std.specs.Prelude.{List, [], ◌∷◌, ℕ}
+use Rattle.std.specs.Prelude.{List, [], ◌∷◌, ℕ, Option}
 use Rattle.lent.specs.Left as lent
 use Rattle.reader.specs.Read as reader
 use Rattle.arena_check.specs.Checks.{Checks}
-use Rattle.tables.specs.declared.find.Found.{Found}
 use Rattle.tables.specs.Layout.{Lent}
 use Rattle.tables_text.specs.Read.{Buffers, Reads}
 use Rattle.commands.specs.declared.form.Form.{Form}
@@ -30,7 +29,7 @@ abbrev pub ReadsOut : List ℕ → Buffers → List ℕ → ℕ → List ℕ →
 ReadsOut text entry told r told_after exit = Promises 5 tables_read (Reads text entry) told entry r told_after exit
 
 -- a lookup, exported, by what the call that it exports finds
-abbrev pub LooksUp : (Found → Type 0) → List ℕ → ℕ → List ℕ → Type 0
+abbrev pub LooksUp : ((Option ℕ) → Type 0) → List ℕ → ℕ → List ℕ → Type 0
 LooksUp finds told r exit = Promises {B = Unit {0}} 2 found_row (λ answer _. finds answer) told tt r exit tt
 
 -- the listing, exported: at entry the buffer and the slice for numbers, at exit the word, the slice and the buffer

@@ -1,4 +1,5 @@
 // The lines of a script, exported: each tells the length of its line.
+// Stays: one function for each name that C calls; two that differ in a name alone are two exports.
 ghost use Rattle.std.specs.Prelude.{true, ◌&&◌, [], ◌∷◌};
 ghost use Rattle.refusals.specs.declared.Refusal.{Refusal};
 ghost use Rattle.lent.specs.Left.{writing};

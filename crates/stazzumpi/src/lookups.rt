@@ -1,10 +1,11 @@
 // The lookups of the tables, exported: each tells 1 and the row that it found, or 0 and 0.
+// Stays: one function for each name that C calls; two that differ in a name alone are two exports.
 ghost use Rattle.tables.specs.Lookup.{FindsVariable, FindsFunction, FindsMember, FindsNamed};
 ghost use Rattle.stazzumpi.specs.Kind.{FindsKind};
 ghost use Rattle.stazzumpi.specs.Outs.{LooksUp};
 
 use refusals::Refusal;
-use tables::{Found, Wanted};
+use tables::Wanted;
 use told::{code, tell_found};
 
 #[unsafe(no_mangle)]
@@ -73,7 +74,8 @@ pub extern "C" fn stazzumpi_find_sort_name(
 }
 
 // Other languages have no `Wanted`: a kind and a number as a row has them stand for it.
-fn find_kind(sorts: &[u64], kind: u64, number: u64) -> Found
+// Stays: a match on numbers, since C gives them.
+fn find_kind(sorts: &[u64], kind: u64, number: u64) -> Option<usize>
     ensures { FindsKind sorts.now kind number result }
 {
     match kind {
@@ -85,7 +87,7 @@ fn find_kind(sorts: &[u64], kind: u64, number: u64) -> Found
         6 => tables::find_sort(sorts, Wanted::BitVec(number)),
         7 => tables::find_sort(sorts, Wanted::Option(number)),
         8 => tables::find_sort(sorts, Wanted::Set(number)),
-        _ => Found::NoRow,
+        _ => None,
     }
 }
 

@@ -1,4 +1,5 @@
 // The listing of a model and of a reply to get-value, exported.
+// Stays: one function for each name that C calls; two that differ in a name alone are two exports.
 ghost use Rattle.commands.specs.declared.form.Form.{Form};
 ghost use Rattle.stazzumpi.specs.Outs.{ListsOut};
 

@@ -6,7 +6,6 @@ ghost use Rattle.told.specs.Yields.{passed};
 ghost use Rattle.stazzumpi.specs.Outs.{ReadsOut};
 
 use refusals::Refusal;
-use tables::Checked;
 use told::{code, tell_tables};
 
 // Tells nothing but that the tables break no rule.
@@ -23,8 +22,8 @@ pub extern "C" fn stazzumpi_check_tables(
 {
     let answer = tables::check_tables(sorts, fields, variables, functions, members, names);
     match answer {
-        Checked::Passed => 0,
-        Checked::Refused(why) => code(why),
+        Ok(()) => 0,
+        Err(why) => code(why),
     }
 }
 

@@ -1,4 +1,5 @@
 // decode_string, exported.
+// Stays: one function for each name that C calls; two that differ in a name alone are two exports.
 ghost use Rattle.strings.specs.Text.{decoded};
 ghost use Rattle.stazzumpi.specs.Outs.{WritesOut};
 

@@ -1,5 +1,6 @@
 -- The character at a place, by the bytes that the code looks at.
 -- Assumes nothing.
+use Rattle.std.proofs.Common.{None, Option, Some}
 use mathlib.Core.Path.{◌≡◌, sym, ap, ◌∙◌}
 use mathlib.Core.Bool.{cond}
 use mathlib.Core.List.{List, ◌∷◌}
@@ -7,11 +8,10 @@ use Prim.Native.Nat.{ℕ, ◌+◌, ◌≤◌, ◌<◌}
 use lib.ListN.{length, get_or, drop, drop_of_length-le}
 use borrow.Author.Tests.{eq-eqb, ne_eqb}
 use Rattle.ground.proofs.Lists.{at_place}
-use Rattle.strings.specs.declared.escape.Escape.{Escape}
-use Rattle.strings.specs.declared.escape.Escape.TheVariants.{Point, Plain}
 use Rattle.strings.specs.declared.character.Character.{Character}
 use Rattle.strings.specs.Escape.{starts_by, escape}
 use Rattle.strings.specs.Points.{one, escaped, two_quotes, lone_quote, character_at}
+use Rattle.strings.specs.declared.escape.Escape.{Escape}
 
 module _ (s : List ℕ) (i : ℕ) (less : i < length s) where
   character-here : {x : Character} → x ≡ character_at (get_or s i 0 ∷ drop (i + 1) s) → x ≡ character_at (drop i s)
@@ -22,11 +22,11 @@ module _ (s : List ℕ) (i : ℕ) (less : i < length s) where
     unfolding character_at
     character-escaped = character-here (sym (rw (eq-eqb (get_or s i 0) 0x5C b)))
 
-    module _ (e : Escape) (is : e ≡ escape (drop (i + 1) s)) where
-      pub character-plain : e ≡ Plain → one 0x5C ≡ character_at (drop i s)
+    module _ (e : Option Escape) (is : e ≡ escape (drop (i + 1) s)) where
+      pub character-plain : e ≡ None → one 0x5C ≡ character_at (drop i s)
       character-plain q = ap escaped (sym q ∙ is) ∙ character-escaped
 
-      pub character_point : (v n : ℕ) → e ≡ Point v n → record { point = v; more = n } ≡ character_at (drop i s)
+      pub character_point : (v n : ℕ) → e ≡ Some (record { value = v; bytes = n }) → record { point = v; more = n } ≡ character_at (drop i s)
       character_point v n q = ap escaped (sym q ∙ is) ∙ character-escaped
 
   module _ (b : get_or s i 0 ≡ 0x5C → ⊥) where

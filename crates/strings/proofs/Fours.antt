@@ -1,19 +1,23 @@
--- Exactly four digits.
+-- Exactly four digits, one after the other: what is left decides as the whole did.
 -- Assumes nothing.
-use mathlib.Core.Path.{◌≡◌, sym, ap, ◌∙◌}
+use Rattle.std.proofs.Common.{None, Option, Some}
+use mathlib.Core.Path.{◌≡◌, refl, sym, ap, ◌∙◌, subst}
+use mathlib.Core.Bool.{cond}
 use mathlib.Core.List.{List, [], ◌∷◌}
-use Prim.Native.Nat.{ℕ, ◌+◌, ◌-◌, ◌*◌, ◌≤◌, ◌<◌}
+use Prim.Native.Nat.{ℕ, suc, ◌+◌, ◌-◌, ◌*◌, ◌^◌, ◌≤◌, ◌<◌}
+use native.Mathlib.Nat.{zero-add}
 use native.Mathlib.Omega.{arith}
-use lib.ListN.{length, get_or, take, drop, length-take, length-drop}
+use lib.Dec.{eqb}
+use lib.ListN.{length, get_or, take, drop, drop_of_length-le, length-take, length-drop}
+use lib.Pow.{pow_mono, pow-add}
 use borrow.Author.Tests.{ne_eqb}
 use Rattle.ground.proofs.Lists.{at_place}
 use Rattle.ground.proofs.Tests.{by_order}
 use Rattle.words.specs.Radix.{worth}
 use Rattle.words.specs.Run.{from}
-use Rattle.strings.specs.declared.escape.Escape.{Escape}
-use Rattle.strings.specs.declared.escape.Escape.TheVariants.{Point, Plain}
 use Rattle.strings.specs.Escape.{hex_run, four_digits}
 use Rattle.strings.proofs.Braces.{no_digit, a-digit}
+use Rattle.strings.specs.declared.escape.Escape.{Escape}
 
 pub run_le : (s : List ℕ) → length (hex_run s) ≤ length s
 unfolding hex_run
@@ -23,43 +27,77 @@ run_le (b ∷ bs) =
     (λ h. rw (a-digit b bs h) (omega (arith, run_le bs)))
     (λ h. rw (no_digit b bs h) (omega arith))
 
-not-four : (s : List ℕ) → length (hex_run (take 4 s)) < 4 → Plain ≡ four_digits s
+pub fours_short : (s : List ℕ) (start : ℕ) → length s < start + 4 → None ≡ four_digits (drop start s)
 unfolding four_digits
-not-four s h = let e : length (hex_run (take 4 s)) ≡ 4 → ⊥ = λ q. omega arith in rw (ne_eqb _ 4 e)
+fours_short s start h =
+    let e : length (hex_run (take 4 (drop start s))) ≡ 4 → ⊥ = λ q. omega (arith, run_le (take 4 (drop start s)), length-take 4 (drop start s), length-drop start s) in
+    rw (ne_eqb _ 4 e)
 
-short : (s : List ℕ) → length s < 4 → Plain ≡ four_digits s
-short s h = not-four s (omega (arith, run_le (take 4 s), length-take 4 s))
+-- the answer for bytes after k digits that stood for v
+pub four_after : ℕ → ℕ → List ℕ → Option Escape
+four_after k v s = cond (eqb (k + length (hex_run s)) 4) (Some (record { value = from 16 v s; bytes = 5 })) None
 
-module _ (a b c d : ℕ) (s : List ℕ) where
-  abbrev four : List ℕ
-  four = a ∷ b ∷ c ∷ d ∷ s
+after_none : (s : List ℕ) → four_after 0 0 (take 4 s) ≡ four_digits s
+unfolding four_after four_digits
+after_none s = rw (zero-add (length (hex_run (take 4 s))))
 
-  first-none : 16 ≤ worth a → Plain ≡ four_digits four
-  first-none h = not-four four (rw (no_digit a (b ∷ c ∷ d ∷ []) h) (omega arith))
+after-end : (v : ℕ) → four_after 4 v [] ≡ Some (record { value = v; bytes = 5 })
+unfolding four_after hex_run from
+after-end v = refl
 
-  module _ (first : worth a < 16) where
-    second_none : 16 ≤ worth b → Plain ≡ four_digits four
-    second_none h = not-four four (rw (a-digit a (b ∷ c ∷ d ∷ []) first) (rw (no_digit b (c ∷ d ∷ []) h) (omega arith)))
+after-other : (k v b : ℕ) (bs : List ℕ) → k < 4 → 16 ≤ worth b → four_after k v (b ∷ bs) ≡ None
+unfolding four_after
+after-other k v b bs h w = let n : k + 0 ≡ 4 → ⊥ = λ q. omega arith in rw (no_digit b bs w) (rw (ne_eqb (k + 0) 4 n))
 
-    module _ (second : worth b < 16) where
-      third-none : 16 ≤ worth c → Plain ≡ four_digits four
-      third-none h =
-          not-four four
-          (rw (a-digit a (b ∷ c ∷ d ∷ []) first) (rw (a-digit b (c ∷ d ∷ []) second) (rw (no_digit c (d ∷ []) h) (omega arith))))
+after-digit : (k v b : ℕ) (bs : List ℕ) → worth b < 16 → four_after k v (b ∷ bs) ≡ four_after (k + 1) (v * 16 + worth b) bs
+unfolding four_after from
+after-digit k v b bs w =
+    let e : k + suc (length (hex_run bs)) ≡ k + 1 + length (hex_run bs) = omega arith in
+    rw (a-digit b bs w) (rw e)
 
-      module _ (third : worth c < 16) where
-        fourth-none : 16 ≤ worth d → Plain ≡ four_digits four
-        fourth-none h =
-            not-four four
-            (rw (a-digit a (b ∷ c ∷ d ∷ []) first)
-            (rw (a-digit b (c ∷ d ∷ []) second) (rw (a-digit c (d ∷ []) third) (rw (no_digit d [] h) (omega arith)))))
+-- the loop: k of the four digits were passed, and stood for v
+pub record Fours (four : List ℕ) (answer : Option Escape) (v k : ℕ) : Type 0 where
+  pub small : v < 2 ^ (4 * k)
+  pub rest : four_after k v (drop k four) ≡ answer
 
-        all-four : worth d < 16 → Point (((worth a * 16 + worth b) * 16 + worth c) * 16 + worth d) 5 ≡ four_digits four
-        unfolding four_digits from hex_run
-        all-four fourth =
-            let e : ((worth a * 16 + worth b) * 16 + worth c) * 16 + worth d ≡ (((0 * 16 + worth a) * 16 + worth b) * 16 + worth c) * 16 + worth d = omega arith in
-            rw (a-digit a (b ∷ c ∷ d ∷ []) first)
-            (rw (a-digit b (c ∷ d ∷ []) second) (rw (a-digit c (d ∷ []) third) (rw (a-digit d [] fourth) (ap (λ (n : ℕ). Point n 5) e))))
+pub fours_start : (s four : List ℕ) (start : ℕ) → four ≡ take (start + 4 - start) (drop start s) → Fours four (four_digits (drop start s)) 0 0
+fours_start s four start e =
+    let n : start + 4 - start ≡ 4 = omega arith in
+    record {
+      small = omega arith;
+      rest = ap (four_after 0 0) (e ∙ ap (λ (k : ℕ). take k (drop start s)) n) ∙ after_none (drop start s);
+    }
+
+module _ (four : List ℕ) (answer : Option Escape) (v k : ℕ) (so : Fours four answer v k) (many : length four ≡ 4) where
+  pub fours_done : 4 ≤ k → k ≤ 4 → Some (record { value = v; bytes = 5 }) ≡ answer
+  fours_done h g =
+      let e : k ≡ 4 = omega arith in
+      sym (after-end v)
+      ∙ subst (λ (n : ℕ). four_after n v [] ≡ answer) e
+      (subst (λ (t : List ℕ). four_after k v t ≡ answer) (drop_of_length-le four (omega arith)) so.rest)
+
+  module _ (less : k < 4) (d : ℕ) (is : d ≡ worth (get_or four k 0)) where
+    at_byte : four_after k v (get_or four k 0 ∷ drop (k + 1) four) ≡ answer
+    at_byte = subst (λ (t : List ℕ). four_after k v t ≡ answer) (at_place four k (omega arith)) so.rest
+
+    pub fours_other : 16 ≤ d → None ≡ answer
+    fours_other h = sym (after-other k v (get_or four k 0) (drop (k + 1) four) less (omega arith)) ∙ at_byte
+
+    pub fours_small : v < 2 ^ 12
+    fours_small =
+        let p : 2 ^ (4 * k) ≤ 2 ^ 12 = pow_mono {i = 4 * k} {j = 12} (omega arith) in
+        omega (arith, so.small)
+
+    pub fours_step : d < 16 → Fours four answer (v * 16 + d) (k + 1)
+    fours_step h = record {
+      small =
+          let e : 4 * (k + 1) ≡ 4 * k + 4 = omega arith in
+          let p : 2 ^ (4 * (k + 1)) ≡ 2 ^ (4 * k) * 16 = ap (λ (n : ℕ). 2 ^ n) e ∙ pow-add 2 (4 * k) 4 in
+          omega (arith, so.small);
+      rest =
+          ap (λ (x : ℕ). four_after (k + 1) (v * 16 + x) (drop (k + 1) four)) is
+          ∙ sym (after-digit k v (get_or four k 0) (drop (k + 1) four) (omega arith)) ∙ at_byte;
+    }
 
 four-at : (s : List ℕ) (i : ℕ) → 4 ≤ length s - i
     → drop i s ≡ get_or s i 0 ∷ get_or s (i + 1) 0 ∷ get_or s (i + 2) 0 ∷ get_or s (i + 3) 0 ∷ drop (i + 4) s
@@ -75,27 +113,20 @@ four-at s i h =
     ∙ ap (λ (t : List ℕ). get_or s (i + 2) 0 ∷ t)
     (at_place s (i + 3) (omega arith) ∙ ap (λ (n : ℕ). get_or s (i + 3) 0 ∷ drop n s) r)))
 
-pub fours_short : (s : List ℕ) (i : ℕ) → length s - i < 4 → Plain ≡ four_digits (drop i s)
-fours_short s i h = short (drop i s) (rw (length-drop i s) h)
-
--- the four bytes, and what each is worth
+-- four digits, by what each is worth
 module _ (s : List ℕ) (i a b c d : ℕ) (room : 4 ≤ length s - i) (pa : a ≡ worth (get_or s i 0)) (pb : b ≡ worth (get_or s (i + 1) 0)) (pc : c ≡ worth (get_or s (i + 2) 0)) (pd : d ≡ worth (get_or s (i + 3) 0)) where
-  here : {e : Escape} → e ≡ four_digits (four (get_or s i 0) (get_or s (i + 1) 0) (get_or s (i + 2) 0) (get_or s (i + 3) 0) (drop (i + 4) s)) → e ≡ four_digits (drop i s)
-  here q = q ∙ ap four_digits (sym (four-at s i room))
-
-  pub fours_first : 16 ≤ a → Plain ≡ four_digits (drop i s)
-  fours_first h = here (first-none _ _ _ _ _ (omega arith))
-
-  pub fours_second : a < 16 → 16 ≤ b → Plain ≡ four_digits (drop i s)
-  fours_second f h = here (second_none _ _ _ _ _ (omega arith) (omega arith))
-
-  pub fours_third : a < 16 → b < 16 → 16 ≤ c → Plain ≡ four_digits (drop i s)
-  fours_third f g h = here (third-none _ _ _ _ _ (omega arith) (omega arith) (omega arith))
-
-  pub fours_fourth : a < 16 → b < 16 → c < 16 → 16 ≤ d → Plain ≡ four_digits (drop i s)
-  fours_fourth f g k h = here (fourth-none _ _ _ _ _ (omega arith) (omega arith) (omega arith) (omega arith))
-
-  pub fours_all : a < 16 → b < 16 → c < 16 → d < 16 → Point (((a * 16 + b) * 16 + c) * 16 + d) 5 ≡ four_digits (drop i s)
+  pub fours_all : a < 16 → b < 16 → c < 16 → d < 16 → Some (record { value = ((a * 16 + b) * 16 + c) * 16 + d; bytes = 5 }) ≡ four_digits (drop i s)
   fours_all f g k h =
-      let e : ((a * 16 + b) * 16 + c) * 16 + d ≡ ((worth (get_or s i 0) * 16 + worth (get_or s (i + 1) 0)) * 16 + worth (get_or s (i + 2) 0)) * 16 + worth (get_or s (i + 3) 0) = omega arith in
-      ap (λ (n : ℕ). Point n 5) e ∙ here (all-four _ _ _ _ _ (omega arith) (omega arith) (omega arith) (omega arith))
+      let w = get_or s i 0 in
+      let x = get_or s (i + 1) 0 in
+      let y = get_or s (i + 2) 0 in
+      let z = get_or s (i + 3) 0 in
+      let t : take 4 (drop i s) ≡ w ∷ x ∷ y ∷ z ∷ [] = ap (take 4) (four-at s i room) in
+      let e : ((a * 16 + b) * 16 + c) * 16 + d ≡ (((0 * 16 + worth w) * 16 + worth x) * 16 + worth y) * 16 + worth z = omega arith in
+      ap (λ (n : ℕ). Some (record { value = n; bytes = 5 })) e
+      ∙ sym (sym (after_none (drop i s)) ∙ ap (four_after 0 0) t
+      ∙ after-digit 0 0 w (x ∷ y ∷ z ∷ []) (omega arith)
+      ∙ after-digit 1 (0 * 16 + worth w) x (y ∷ z ∷ []) (omega arith)
+      ∙ after-digit 2 ((0 * 16 + worth w) * 16 + worth x) y (z ∷ []) (omega arith)
+      ∙ after-digit 3 (((0 * 16 + worth w) * 16 + worth x) * 16 + worth y) z [] (omega arith)
+      ∙ after-end ((((0 * 16 + worth w) * 16 + worth x) * 16 + worth y) * 16 + worth z))

@@ -1,6 +1,5 @@
 pub mod Braces
 pub mod Fours
-pub mod Stores
 pub mod Escapes
 pub mod Characters
 pub mod Sizes

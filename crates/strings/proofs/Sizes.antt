@@ -1,5 +1,6 @@
 -- How many bytes a character takes in the string and in the text.
 -- Assumes nothing.
+use Rattle.std.proofs.Common.{None, Option, Some}
 use mathlib.Core.Path.{◌≡◌, refl}
 use mathlib.Core.Bool.{Bool, true, false, cond, ◌&&◌}
 use mathlib.Core.List.{List, [], ◌∷◌}
@@ -12,13 +13,11 @@ use Rattle.ground.proofs.Tests.{by_order, by_test, and-false}
 use Rattle.words.specs.Run.{number}
 use Rattle.utf8.specs.Encoding.{encoded, bytes_of}
 use Rattle.utf8.proofs.Encodings.{encoded-length_le, encoded-length-two}
-use Rattle.strings.specs.declared.escape.Braced.TheVariants.{Closed, Failed}
-use Rattle.strings.specs.declared.escape.Escape.{Escape}
-use Rattle.strings.specs.declared.escape.Escape.TheVariants.{Point, Plain}
 use Rattle.strings.specs.declared.character.Character.{Character}
 use Rattle.strings.specs.Escape.{hex_run, starts_by, braced, closed, braced_escape, four_digits, after_u, escape}
 use Rattle.strings.specs.Points.{escaped, character_at}
 use Rattle.strings.proofs.Fours.{run_le}
+use Rattle.strings.specs.declared.escape.Escape.{Escape}
 
 -- a byte that the rest starts by is there
 there : (x n : ℕ) (s : List ℕ) → starts_by x (drop n s) ≡ true → n < length s
@@ -31,11 +30,11 @@ pub record Sized (s : List ℕ) (n : ℕ) : Type 0 where
   pub least : 4 ≤ n
   pub inside : n ≤ length s
 
-abbrev SizedEscape : List ℕ → Escape → Type 0
-SizedEscape s (Point v n) = Sized s n
-SizedEscape s Plain = Unit {0}
+abbrev SizedEscape : List ℕ → Option Escape → Type 0
+SizedEscape s (Some it) = Sized s it.bytes
+SizedEscape s None = Unit {0}
 
-closed-sized : (t : Bool) (s : List ℕ) (v : ℕ) (n : ℕ) → (t ≡ true → Sized s (n + 3)) → SizedEscape s (cond t (Point v (n + 3)) Plain)
+closed-sized : (t : Bool) (s : List ℕ) (v : ℕ) (n : ℕ) → (t ≡ true → Sized s (n + 3)) → SizedEscape s (cond t (Some (record { value = v; bytes = n + 3 })) None)
 closed-sized true s v n h = h refl
 closed-sized false s v n h = tt
 
@@ -50,7 +49,7 @@ braced-sized a b s =
     (λ t. rw t (at-brace (leb (length (hex_run s)) 6 && true) (there 0x7D (length (hex_run s)) s t)))
     (λ t. rw t (rw (and-false (leb (length (hex_run s)) 6)) tt))
   where
-    at-brace : (c : Bool) → length (hex_run s) < length s → SizedEscape (a ∷ b ∷ s) (closed (cond c (Closed (number 16 (hex_run s)) (length (hex_run s))) Failed))
+    at-brace : (c : Bool) → length (hex_run s) < length s → SizedEscape (a ∷ b ∷ s) (closed (cond c (Some (record { value = number 16 (hex_run s); digits = length (hex_run s) })) None))
     at-brace true h =
         closed-sized (leb 1 (length (hex_run s)) && leb (number 16 (hex_run s)) 0x2FFFF) (a ∷ b ∷ s) (number 16 (hex_run s)) (length (hex_run s))
         (λ q. record { least = omega (arith, some-digit (length (hex_run s)) (number 16 (hex_run s)) q); inside = omega arith })
@@ -77,12 +76,12 @@ pub record Measures (rest : List ℕ) (c : Character) : Type 0 where
   pub inside : c.more ≤ length rest
   pub small : length (bytes_of (encoded c.point)) ≤ 2 * (1 + c.more)
 
-escaped-measures : (s : List ℕ) (e : Escape) → SizedEscape s e → Measures s (escaped e)
-escaped-measures s (Point v n) h = record {
+escaped-measures : (s : List ℕ) (e : Option Escape) → SizedEscape s e → Measures s (escaped e)
+escaped-measures s (Some it) h = record {
   inside = h.inside;
-  small = let l = h.least in omega (arith, encoded-length_le v);
+  small = let l = h.least in omega (arith, encoded-length_le it.value);
 }
-escaped-measures s Plain h = record { inside = omega arith; small = omega (arith, encoded-length-two 0x5C (omega arith)) }
+escaped-measures s None h = record { inside = omega arith; small = omega (arith, encoded-length-two 0x5C (omega arith)) }
 
 quote-measures : (s : List ℕ) → Measures s (cond (starts_by 0x22 s) (record { point = 0x22; more = 1 }) (record { point = 0x22; more = 0 }))
 quote-measures [] = record { inside = omega arith; small = omega (arith, encoded-length-two 0x22 (omega arith)) }

@@ -1,5 +1,6 @@
 -- A string walked character by character: what is left of it, and what is left of its text.
 -- Assumes nothing.
+use Rattle.std.proofs.Common.{None, Some}
 use mathlib.Core.Path.{◌≡◌, refl, sym, ap, ◌∙◌, subst}
 use mathlib.Core.Bool.{true, false, not, ◌||◌}
 use mathlib.Core.List.{List, [], ◌∷◌, ◌++◌, append_assoc, append-nil}
@@ -16,7 +17,6 @@ use Rattle.utf8.specs.declared.Encoded.{Encoded}
 use Rattle.utf8.specs.Encoding.{scalar, encoded, bytes_of}
 use Rattle.utf8.proofs.Encodings.{no_bytes}
 use Rattle.strings.specs.declared.character.Character.{Character}
-use Rattle.strings.specs.declared.text.Measured.TheVariants.{Text, Surrogate}
 use Rattle.strings.specs.Points.{character_at, points_after, points}
 use Rattle.strings.specs.Text.{encodings, text, any_surrogate, measured}
 use Rattle.strings.proofs.Sizes.{Measures, character-measures}
@@ -75,7 +75,7 @@ module _ (s : List ℕ) (n at : ℕ) (so : Measuring s n at) (c : Character) (le
   clean_at =
       sym (surrogate-cons c.point (points (drop (at + 1 + c.more) s))) ∙ ap any_surrogate (sym (points-at s at c less is)) ∙ so.clean
 
-  pub measuring_surrogate : size ≡ 0 → Surrogate ≡ measured s
+  pub measuring_surrogate : size ≡ 0 → None ≡ measured s
   unfolding measured
   measuring_surrogate z =
       let t : any_surrogate (points s) ≡ true = sym clean_at ∙ (rw ((no_bytes c.point).0 (sym of ∙ z))) in
@@ -103,14 +103,14 @@ module _ (s : List ℕ) (n at : ℕ) (so : Measuring s n at) (c : Character) (le
       clean = sym (rw is-scalar) ∙ clean_at;
     }
 
-pub measuring_end : (s : List ℕ) (n at : ℕ) → Measuring s n at → length s ≤ at → Text n ≡ measured s
+pub measuring_end : (s : List ℕ) (n at : ℕ) → Measuring s n at → length s ≤ at → Some n ≡ measured s
 unfolding measured any_surrogate encodings points_after
 measuring_end s n at so past =
     let d : drop at s ≡ [] = drop_of_length-le s past in
     let t : any_surrogate (points s) ≡ false = sym so.clean ∙ ap (λ (l : List ℕ). any_surrogate (points l)) d in
     let z : length (encodings (points (drop at s))) ≡ 0 = ap (λ (l : List ℕ). length (encodings (points l))) d in
     let e : n ≡ length (text s) = omega (arith, so.sum) in
-    rw t (ap Text e)
+    rw t (ap Some e)
 
 -- the second pass: what stands so far and the text that is left make up the text, and nothing behind it has changed
 pub record Writing (s entry : List ℕ) (to at : ℕ) (out : List ℕ) : Type 0 where

@@ -1,17 +1,16 @@
 -- SMT-LIB 2.7 §3.1, string literal, with the Unicode Strings theory: the code points of what stands between two quotes.
-use Rattle.std.specs.Prelude.{cond, List, [], ◌∷◌, ℕ, zero, suc, eqb}
-use Rattle.strings.specs.declared.escape.Escape.{Escape}
-use Rattle.strings.specs.declared.escape.Escape.TheVariants.{Point, Plain}
+use Rattle.std.specs.Prelude.{cond, List, [], ◌∷◌, ℕ, zero, suc, eqb, None, Option, Some}
 use Rattle.strings.specs.declared.character.Character.{Character}
 use Rattle.strings.specs.Escape.{starts_by, escape}
+use Rattle.strings.specs.declared.escape.Escape.{Escape}
 
 abbrev pub one : ℕ → Character
 one b = record { point = b; more = 0 }
 
 -- an escape's code point; a backslash that begins none is itself
-abbrev pub escaped : Escape → Character
-escaped (Point v n) = record { point = v; more = n }
-escaped Plain = one 0x5C
+abbrev pub escaped : Option Escape → Character
+escaped (Some it) = record { point = it.value; more = it.bytes }
+escaped None = one 0x5C
 
 -- two quotes stand for one
 abbrev pub two_quotes : Character

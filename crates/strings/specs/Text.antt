@@ -1,11 +1,9 @@
 -- Document 01, "Bytes to tokens" and "Numbers given back": the text is the UTF-8 of the code points; 9, 3, 11 in this order.
-use Rattle.std.specs.Prelude.{Bool, false, cond, not, ◌||◌, List, [], ◌∷◌, ◌++◌, ℕ, leb, length}
+use Rattle.std.specs.Prelude.{Bool, false, cond, not, ◌||◌, List, [], ◌∷◌, ◌++◌, ℕ, leb, length, None, Option, Some}
 use Rattle.refusals.specs.Limit.{input_limit}
 use Rattle.refusals.specs.declared.Refusal.TheVariants.{StringParseError, InputTooLong, TextRoom}
 use Rattle.lent.specs.Left.{Left, refusing, writing}
 use Rattle.utf8.specs.Encoding.{scalar, encoded, bytes_of}
-use Rattle.strings.specs.declared.text.Measured.{Measured}
-use Rattle.strings.specs.declared.text.Measured.TheVariants.{Text, Surrogate}
 use Rattle.strings.specs.Points.{points}
 
 unfoldable pub encodings : List ℕ → List ℕ
@@ -20,8 +18,8 @@ unfoldable pub any_surrogate : List ℕ → Bool
 any_surrogate [] = false
 any_surrogate (p ∷ ps) = not (scalar p) || any_surrogate ps
 
-unfoldable pub measured : List ℕ → Measured
-measured s = cond (any_surrogate (points s)) Surrogate (Text (length (text s)))
+unfoldable pub measured : List ℕ → Option ℕ
+measured s = cond (any_surrogate (points s)) None (Some (length (text s)))
 
 unfoldable pub decoded : List ℕ → List ℕ → Left
 decoded s buffer =

@@ -17,26 +17,19 @@ pub fn character_at(s: &[u8], at: usize) -> Character
 {
     let byte = s[at];
     if byte == b'\\' {
-        let found = escape_at(s, at + 1);
-        let Escape::Point { value, bytes } = found else {
-            return Character { point: 92, more: 0 };
-        };
-        return Character {
-            point: value,
-            more: bytes,
-        };
-    }
-    if byte != b'"' {
-        return Character {
-            point: byte as u32,
-            more: 0,
+        return match escape_at(s, at + 1) {
+            Some(Escape { value, bytes }) => Character {
+                point: value,
+                more: bytes,
+            },
+            None => Character { point: 92, more: 0 },
         };
     }
-    let next = at + 1;
-    if next < s.len() {
-        if s[next] == b'"' {
-            return Character { point: 34, more: 1 };
-        }
+    if byte == b'"' && at + 1 < s.len() && s[at + 1] == b'"' {
+        return Character { point: 34, more: 1 };
     }
-    Character { point: 34, more: 0 }
+    Character {
+        point: u32::from(byte),
+        more: 0,
+    }
 }

@@ -6,20 +6,20 @@ use words::digit_worth;
 
 // Hexadecimal digits up to a closing brace: the number read and how many digits it has, or a failed mark.
 #[derive(Clone, Copy)]
-pub enum Braced {
-    Closed { value: u32, digits: usize },
-    Failed,
+pub struct Braced {
+    pub value: u32,
+    pub digits: usize,
 }
 
 // What follows a backslash: an escape's code point and how many bytes it takes, or nothing of the kind.
 #[derive(Clone, Copy)]
-pub enum Escape {
-    Point { value: u32, bytes: usize },
-    Plain,
+pub struct Escape {
+    pub value: u32,
+    pub bytes: usize,
 }
 
 // At most six digits are looked at.
-fn hex_digits(s: &[u8], start: usize) -> Braced
+fn hex_digits(s: &[u8], start: usize) -> Option<Braced>
     requires { start ≤ length s.now }
     ensures { result ≡ braced (drop start s.now) }
 {
@@ -28,92 +28,64 @@ fn hex_digits(s: &[u8], start: usize) -> Braced
     let mut at = start;
     loop {
         if s.len() <= at {
-            break Braced::Failed;
+            break None;
         }
         let byte = s[at];
         if byte == b'}' {
-            break Braced::Closed { value, digits };
-        }
-        if 6 <= digits {
-            break Braced::Failed;
+            break Some(Braced { value, digits });
         }
         let worth = digit_worth(byte);
-        if 16 <= worth {
-            break Braced::Failed;
+        if 6 <= digits || 16 <= worth {
+            break None;
         }
-        value = value * 16 + worth as u32;
+        value = value * 16 + u32::from(worth);
         digits += 1;
         at += 1;
     }
 }
 
 // After `\u{`: one digit at least, and a number of the theory's characters.
-fn braced_escape(s: &[u8], start: usize) -> Escape
+fn braced_escape(s: &[u8], start: usize) -> Option<Escape>
     requires { start ≤ length s.now }
     ensures { result ≡ braced_escape (drop start s.now) }
 {
-    let found = hex_digits(s, start);
-    let Braced::Closed { value, digits } = found else {
-        return Escape::Plain;
-    };
-    if digits == 0 {
-        return Escape::Plain;
+    let Braced { value, digits } = hex_digits(s, start)?;
+    if digits == 0 || 0x2FFFF < value {
+        return None;
     }
-    if 0x2FFFF < value {
-        return Escape::Plain;
-    }
-    Escape::Point {
+    Some(Escape {
         value,
         bytes: digits + 3,
-    }
+    })
 }
 
 // After `\u` with no brace.
-fn four_digits(s: &[u8], start: usize) -> Escape
+fn four_digits(s: &[u8], start: usize) -> Option<Escape>
     requires { start ≤ length s.now }
     ensures { result ≡ four_digits (drop start s.now) }
 {
-    if s.len() - start < 4 {
-        return Escape::Plain;
+    let four = s.get(start..start + 4)?;
+    let mut value = 0;
+    for digit in four {
+        let worth = digit_worth(*digit);
+        if 16 <= worth {
+            return None;
+        }
+        value = value * 16 + u32::from(worth);
     }
-    let first = digit_worth(s[start]) as u32;
-    let second = digit_worth(s[start + 1]) as u32;
-    let third = digit_worth(s[start + 2]) as u32;
-    let fourth = digit_worth(s[start + 3]) as u32;
-    if 16 <= first {
-        return Escape::Plain;
-    }
-    if 16 <= second {
-        return Escape::Plain;
-    }
-    if 16 <= third {
-        return Escape::Plain;
-    }
-    if 16 <= fourth {
-        return Escape::Plain;
-    }
-    Escape::Point {
-        value: ((first * 16 + second) * 16 + third) * 16 + fourth,
-        bytes: 5,
-    }
+    Some(Escape { value, bytes: 5 })
 }
 
 // What follows the backslash before start.
-pub fn escape_at(s: &[u8], start: usize) -> Escape
+pub fn escape_at(s: &[u8], start: usize) -> Option<Escape>
     requires { start ≤ length s.now }
     ensures { result ≡ escape (drop start s.now) }
 {
-    if s.len() <= start {
-        return Escape::Plain;
-    }
-    if s[start] != b'u' {
-        return Escape::Plain;
+    if s.len() <= start || s[start] != b'u' {
+        return None;
     }
     let next = start + 1;
-    if s.len() <= next {
-        return Escape::Plain;
-    }
-    if s[next] == b'{' {
+    if next < s.len() && s[next] == b'{' {
         return braced_escape(s, next + 1);
     }
     four_digits(s, next)

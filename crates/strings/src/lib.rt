@@ -5,4 +5,4 @@ mod character;
 mod escape;
 mod text;
 
-pub use text::{Measured, decode_string, measure, write_text};
+pub use text::{decode_string, measure, write_text};

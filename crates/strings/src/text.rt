@@ -6,18 +6,11 @@ ghost use Rattle.strings.specs.Text.{text, measured, decoded};
 ghost use Rattle.lent.specs.Put.{Puts, Fronts};
 
 use crate::character::character_at;
-use lent::Written;
 use refusals::{INPUT_LIMIT, Refusal};
 use utf8::{Encoded, encode, encoded_length};
 
-#[derive(Clone, Copy)]
-pub enum Measured {
-    Text(usize),
-    Surrogate,
-}
-
 // How many bytes the text has, unless a surrogate, which has no UTF-8, stands in it.
-pub fn measure(s: &[u8]) -> Measured
+pub fn measure(s: &[u8]) -> Option<usize>
     ensures { result ≡ measured s.now }
 {
     let mut total: usize = 0;
@@ -26,12 +19,12 @@ pub fn measure(s: &[u8]) -> Measured
         let found = character_at(s, at);
         let size = encoded_length(found.point);
         if size == 0 {
-            return Measured::Surrogate;
+            return None;
         }
         total += size;
         at = at + 1 + found.more;
     }
-    Measured::Text(total)
+    Some(total)
 }
 
 // The bytes of one code point, at a place.
@@ -83,19 +76,16 @@ pub fn write_text(s: &[u8], out: &mut [u8]) -> usize
 }
 
 // The text of a string literal's inside, or a refusal: 9 for a string too long, 3 for a surrogate, 11 with the need for want of room.
-pub fn decode_string(s: &[u8], out: &mut [u8]) -> Written
+pub fn decode_string(s: &[u8], out: &mut [u8]) -> Result<usize, Refusal>
     ensures { Leaves (decoded s.now out.old) result out.new }
 {
     if INPUT_LIMIT < s.len() {
-        return Written::Refused(Refusal::InputTooLong);
+        return Err(Refusal::InputTooLong);
     }
-    let found = measure(s);
-    let Measured::Text(need) = found else {
-        return Written::Refused(Refusal::StringParseError);
-    };
+    let need = measure(s).ok_or(Refusal::StringParseError)?;
     if out.len() < need {
-        return Written::Refused(Refusal::TextRoom(need));
+        return Err(Refusal::TextRoom(need));
     }
     write_text(s, out);
-    Written::Length(need)
+    Ok(need)
 }

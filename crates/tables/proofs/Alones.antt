@@ -1,11 +1,11 @@
 -- Rows that no later row repeats, found by the searches.
 -- Assumes nothing.
+use Rattle.std.proofs.Common.{Option}
 use mathlib.Core.Path.{◌≡◌, sym, ap, ◌∙◌}
 use mathlib.Core.Bool.{Bool, true, false, not}
 use mathlib.Core.List.{List, [], ◌∷◌}
 use Prim.Native.Nat.{ℕ, ◌+◌, ◌-◌}
 use Rattle.arena.specs.Text.{same_text}
-use Rattle.tables.specs.declared.find.Found.{Found}
 use Rattle.tables.specs.Layout.{Lent, count, word, name_at, sort_at}
 use Rattle.tables.specs.Rules.{identity, same_sort}
 use Rattle.tables.specs.Search.{is_row, first_row}
@@ -14,7 +14,7 @@ use Rattle.tables.specs.Right.{lent_sorts, alone, alone_sort}
 use Rattle.tables.proofs.Searches.{first-same}
 use Rattle.tables.proofs.Sorts.{key-at, name-at, identity-named, identity-plain}
 
-module _ (names ws : List ℕ) (i : ℕ) (name : List ℕ) (found : Found) (r : Bool) where
+module _ (names ws : List ℕ) (i : ℕ) (name : List ℕ) (found : Option ℕ) (r : Bool) where
   pub alone-name : name ≡ name_at names ws i → found ≡ first_row (λ j. same_text name (name_at names ws j)) (i + 1) (count ws - (i + 1)) → r ≡ is_row found → not r ≡ alone names ws i
   alone-name e g h =
       ap not (h ∙ ap is_row (g ∙ ap (λ (s : List ℕ). first_row (λ j. same_text s (name_at names ws j)) (i + 1) (count ws - (i + 1))) e))

@@ -1,30 +1,19 @@
--- Kept words: a word of a list, or none of them.
+-- Kept words, group by group; and a test that some element of a list passes, as std says it.
 -- Assumes nothing.
 use mathlib.Core.Path.{◌≡◌, refl, sym, ap, ◌∙◌}
 use mathlib.Core.Bool.{Bool, true, false, ◌||◌}
 use mathlib.Core.List.{List, [], ◌∷◌, ◌++◌}
 use Prim.Native.Nat.{ℕ}
+use Rattle.std.specs.List.{list_any}
 use Rattle.ground.specs.Lists.{any}
 use Rattle.ground.proofs.Tests.{by_test}
 use Rattle.arena.specs.Text.{same_text}
 use Rattle.tables.specs.Kept.{core_words, literal_words, sort_words, kept_words, kept}
 
-module _ (name word : List ℕ) (words : List (List ℕ)) (r : Bool) (e : r ≡ same_text name word) where
-  pub word-hit : r ≡ true → true ≡ any (same_text name) (word ∷ words)
-  unfolding any
-  word-hit h = rw (sym e, h)
-
-  pub word_skip : r ≡ false → (s : Bool) → s ≡ any (same_text name) words → s ≡ any (same_text name) (word ∷ words)
-  unfolding any
-  word_skip h s g = rw (sym e, h) g
-
-or_false : (a : Bool) → a ≡ (a || false)
-or_false true = refl
-or_false false = refl
-
-pub word-last : (name word : List ℕ) (r : Bool) → r ≡ same_text name word → r ≡ any (same_text name) (word ∷ [])
+pub any-list : {A : Type 0} (test : A → Bool) (xs : List A) → list_any test xs ≡ any test xs
 unfolding any
-word-last name word r e = e ∙ or_false (same_text name word)
+any-list test [] = refl
+any-list test (x ∷ xs) = ap (λ (t : Bool). test x || t) (any-list test xs)
 
 any_append : (test : List ℕ → Bool) (a b : List (List ℕ)) → any test (a ++ b) ≡ (any test a || any test b)
 unfolding any

@@ -1,9 +1,9 @@
 -- What tables that pass the check are known to keep, table by table and row by row.
 -- Assumes nothing.
+use Rattle.std.proofs.Common.{Some, Err, Ok}
 use mathlib.Core.Path.{◌≡◌, sym, ap, ◌∙◌}
 use mathlib.Core.Bool.{Bool, true, ◌&&◌}
 use mathlib.Core.List.{List, [], ◌∷◌}
-use mathlib.Core.Option.{some}
 use Prim.Native.Nat.{ℕ, zero, suc, ◌+◌, ◌≤◌}
 use native.Mathlib.Nat.{add-zero, zero-add}
 use native.Mathlib.Omega.{arith}
@@ -14,7 +14,6 @@ use Rattle.ground.specs.Lists.{all, at, distinct}
 use Rattle.ground.proofs.Tests.{by_test, both_left, both_right}
 use Rattle.refusals.specs.declared.Refusal.TheVariants.{BadTable}
 use Rattle.arena.specs.Text.{same_text}
-use Rattle.tables.specs.declared.check.Checked.TheVariants.{Passed, Refused}
 use Rattle.tables.specs.Sort.{Sort, Variable, Function, Member, Tables}
 use Rattle.tables.specs.Layout.{Lent}
 use Rattle.tables.specs.Rules.{row_limit, sort_right, sorts_right, same_sort, variable_right, function_right, member_right, table, lawful}
@@ -80,19 +79,19 @@ module _ (t : Tables) where
       }
 
 -- the check's answer is yes of such tables alone
-pub passed-passes : (l : Lent) → checked l ≡ Passed → passes l ≡ true
+pub passed-passes : (l : Lent) → checked l ≡ (Ok tt) → passes l ≡ true
 passed-passes l e =
     by_test (passes l) (λ h. h)
-    (λ h. let g : Refused BadTable ≡ Passed = rw h at e in let z : ◌≡◌ {A = ℕ} 0 1 = cc in absurd (omega arith))
+    (λ h. let g : Err BadTable ≡ (Ok tt) = rw h at e in let z : ◌≡◌ {A = ℕ} 0 1 = cc in absurd (omega arith))
 
 -- of each row
-pub all-at : {A : Type 0} (test : A → Bool) (xs : List A) (i : ℕ) (x : A) → all test xs ≡ true → at xs i ≡ some x → test x ≡ true
+pub all-at : {A : Type 0} (test : A → Bool) (xs : List A) (i : ℕ) (x : A) → all test xs ≡ true → at xs i ≡ Some x → test x ≡ true
 unfolding all at
 all-at test [] i x e h = absurd (none-some h)
 all-at test (y ∷ ys) zero x e h = ap test (sym (some_one h)) ∙ both_left (test y) (all test ys) e
 all-at test (y ∷ ys) (suc i) x e h = all-at test ys i x (both_right (test y) (all test ys) e) h
 
-sorts-from : (k : ℕ) (ss : List Sort) (i : ℕ) (s : Sort) → sorts_right k ss ≡ true → at ss i ≡ some s → sort_right (k + i) s ≡ true
+sorts-from : (k : ℕ) (ss : List Sort) (i : ℕ) (s : Sort) → sorts_right k ss ≡ true → at ss i ≡ Some s → sort_right (k + i) s ≡ true
 unfolding sorts_right at
 sorts-from k [] i s e h = absurd (none-some h)
 sorts-from k (y ∷ ss) zero s e h =
@@ -102,14 +101,14 @@ sorts-from k (y ∷ ss) (suc i) s e h =
     ap (λ (j : ℕ). sort_right j s) (sym g) ∙ sorts-from (suc k) ss i s (both_right (sort_right k y) (sorts_right (suc k) ss) e) h
 
 module _ (t : Tables) (h : Lawful t) (i : ℕ) where
-  pub sort-right : (s : Sort) → at t.sorts i ≡ some s → sort_right i s ≡ true
+  pub sort-right : (s : Sort) → at t.sorts i ≡ Some s → sort_right i s ≡ true
   sort-right s g = ap (λ (j : ℕ). sort_right j s) (sym (zero-add i)) ∙ sorts-from 0 t.sorts i s h.sorts g
 
-  pub variable-right : (v : Variable) → at t.variables i ≡ some v → variable_right t v ≡ true
+  pub variable-right : (v : Variable) → at t.variables i ≡ Some v → variable_right t v ≡ true
   variable-right v g = all-at (variable_right t) t.variables i v h.variables.each g
 
-  pub function-right : (f : Function) → at t.functions i ≡ some f → function_right t f ≡ true
+  pub function-right : (f : Function) → at t.functions i ≡ Some f → function_right t f ≡ true
   function-right f g = all-at (function_right t) t.functions i f h.functions.each g
 
-  pub member_right_lem : (m : Member) → at t.members i ≡ some m → member_right t m ≡ true
+  pub member_right_lem : (m : Member) → at t.members i ≡ Some m → member_right t m ≡ true
   member_right_lem m g = all-at (member_right t) t.members i m h.members.each g

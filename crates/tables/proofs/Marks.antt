@@ -1,5 +1,6 @@
 -- Rows from the last to the first, each with its slot marked: a row whose slot is free is the same as no later one.
 -- Assumes nothing.
+use Rattle.std.proofs.Common.{Option}
 use mathlib.Core.Path.{◌≡◌, sym, ap, subst, ◌∙◌}
 use mathlib.Core.Bool.{Bool, true, false, not}
 use mathlib.Core.List.{List}
@@ -13,7 +14,6 @@ use borrow.Author.Tests.{eqb-true, eqb-false, not-true, not-false}
 use Rattle.ground.proofs.Tests.{by_test}
 use Rattle.arena.specs.Text.{same_text}
 use Rattle.arena.proofs.Texts.{same-equal}
-use Rattle.tables.specs.declared.find.Found.{Found}
 use Rattle.tables.specs.Search.{is_row, first_row, every_row}
 use Rattle.tables.specs.Slot.{slots, slot_from}
 use Rattle.tables.proofs.Searches.{first_absent, every-missed, every-later, every-end}
@@ -59,7 +59,7 @@ module _ (text : ℕ → List ℕ) (n : ℕ) where
       -- no later row has the row's text
       pub free_alone : (slot mark : ℕ) → slot ≡ slot_at (i - 1) → mark ≡ get_or marks slot 0 → mark ≡ 0 → single (i - 1) ≡ true
       free_alone slot mark e g z =
-          ap (λ (f : Found). not (is_row f))
+          ap (λ (f : Option ℕ). not (is_row f))
           (first_absent (λ j. same_text (text (i - 1)) (text j)) (i - 1 + 1) (n - (i - 1 + 1))
           (λ j a b.
           by_test (same_text (text (i - 1)) (text j))

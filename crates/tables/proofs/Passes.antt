@@ -1,9 +1,9 @@
 -- The check of each table, row by row, is the form and the rules of document 01.
 -- Assumes nothing.
+use Rattle.std.proofs.Common.{Some, Err, Ok}
 use mathlib.Core.Path.{◌≡◌, refl, sym, ap, ◌∙◌}
 use mathlib.Core.Bool.{Bool, true, false, ◌&&◌, and_assoc}
 use mathlib.Core.List.{List, []}
-use mathlib.Core.Option.{some}
 use Prim.Native.Nat.{ℕ, zero, suc, ◌<◌}
 use native.Mathlib.Nat.{zero-add}
 use native.Mathlib.Omega.{arith}
@@ -20,7 +20,6 @@ use Rattle.tables.specs.Rules.{row_limit, name_limit, name_right, own_name, sort
 use Rattle.tables.specs.Search.{every_row}
 use Rattle.tables.specs.Right.{lent_sorts, right_sort, right_variable, right_function, entity_at, right_member, alone, alone_sort, table_passes}
 use Rattle.refusals.specs.declared.Refusal.TheVariants.{BadTable}
-use Rattle.tables.specs.declared.check.Checked.TheVariants.{Passed, Refused}
 use Rattle.tables.specs.Check.{passes, checked}
 use Rattle.tables.proofs.Places.{length-tabulate, at-tabulate, at-past}
 use Rattle.tables.proofs.Searches.{exchange, every-all, every-both, every-distinct}
@@ -46,7 +45,7 @@ four w f g l m r s d e p q t u = rw (p, q, t, u) refl
 
 -- how an entity's row is known
 abbrev EntityOf : List ℕ → ℕ → List ℕ → ℕ → Type 0
-EntityOf name number fields kind = eqb kind 9 ≡ is_entity (some (sort_of kind name number fields))
+EntityOf name number fields kind = eqb kind 9 ≡ is_entity (Some (sort_of kind name number fields))
 
 entity-other : (name : List ℕ) (number : ℕ) (fields : List ℕ) (kind : ℕ) → 9 < kind → EntityOf name number fields kind
 entity-other name number fields kind h =
@@ -193,10 +192,10 @@ module _ (l : Lent) where
       (table (function_right (tables_of l)) (λ a b. same_text a.name b.name) function_list)
       (table (member_right (tables_of l)) (λ a b. same_text a.name b.name) member_list))
 
-  pub is-refused : false ≡ (sorts_pass && (variables_pass && (functions_pass && members_pass))) → Refused BadTable ≡ checked l
+  pub is-refused : false ≡ (sorts_pass && (variables_pass && (functions_pass && members_pass))) → Err BadTable ≡ checked l
   is-refused h = rw (passes-parts, sym h) refl
 
-  pub is-passed : true ≡ (sorts_pass && (variables_pass && (functions_pass && members_pass))) → Passed ≡ checked l
+  pub is-passed : true ≡ (sorts_pass && (variables_pass && (functions_pass && members_pass))) → (Ok tt) ≡ checked l
   is-passed h = rw (passes-parts, sym h) refl
 
 -- with the number of sort rows that was counted

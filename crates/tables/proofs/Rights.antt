@@ -2,15 +2,14 @@
 -- Assumes nothing.
 use mathlib.Core.Path.{◌≡◌, refl, sym, ap, ◌∙◌}
 use mathlib.Core.Bool.{Bool, true, false, not, ◌&&◌, and_assoc}
-use mathlib.Core.List.{List}
+use mathlib.Core.List.{List, [], ◌∷◌}
+use Rattle.std.specs.List.{list_all}
 use Prim.Native.Nat.{ℕ, ◌+◌, ◌-◌, ◌%◌, ◌≤◌, ◌<◌}
 use native.Mathlib.Omega.{arith}
 use lib.Dec.{leb, ltb, eqb}
-use lib.ListN.{length, get_or, drop}
-use lib.Seq.{drop-length}
-use borrow.Author.Tests.{eq-eqb, ne_eqb, le-leb, lt-leb, leb-true, leb-false, lt-ltb, le-ltb, not-true, not-false}
+use lib.ListN.{drop, get_or, length}
+use borrow.Author.Tests.{ne_eqb, le-leb, lt-leb, lt-ltb, le-ltb, not-true, not-false}
 use Rattle.ground.specs.Lists.{all}
-use Rattle.ground.proofs.Tests.{by_test}
 use Rattle.ground.proofs.Lists.{at_place}
 use Rattle.lexicon.specs.Symbol.{one_symbol}
 use Rattle.tables.specs.declared.row.Range.{Range}
@@ -18,19 +17,10 @@ use Rattle.tables.specs.Layout.{count, word, part, name_at, name_inside}
 use Rattle.tables.specs.Range.{Clamps}
 use Rattle.tables.specs.Kept.{kept}
 use Rattle.tables.specs.Rules.{name_right}
-use Rattle.tables.specs.Right.{right_name, right_own, right_text, entity_at, sized}
+use Rattle.tables.specs.Right.{right_name, right_own, entity_at, sized}
 use Rattle.tables.proofs.Ranges.{length_clamped}
 
 -- so many entries from one on are all there
-pub inside-no : (first size most : ℕ) → most < first → false ≡ leb (first + size) most
-inside-no first size most h = sym (lt-leb (first + size) most (omega arith))
-
-pub inside-rest : (first size most : ℕ) → first ≤ most → leb size (most - first) ≡ leb (first + size) most
-inside-rest first size most h =
-    by_test (leb size (most - first))
-    (λ e. let g = leb-true size (most - first) e in e ∙ sym (le-leb (first + size) most (omega (arith, g))))
-    (λ e. let g = leb-false size (most - first) e in e ∙ sym (lt-leb (first + size) most (omega (arith, g))))
-
 pub inside-name : (names ws : List ℕ) (i first size : ℕ) (r : Bool) → first ≡ word ws i 0 → size ≡ word ws i 1 → r ≡ leb (first + size) (length names) → r ≡ name_inside names ws i
 inside-name names ws i first size r e g h = h ∙ rw (e, g) refl
 
@@ -64,9 +54,6 @@ module _ (w n k : ℕ) (e : k ≡ w) (b : Bool) where
   pub there-no : n ≤ k → false ≡ (ltb w n && b)
   there-no h = rw (le-ltb w n (omega (arith, e)))
 
-  pub there-yes : k < n → (s : Bool) → s ≡ b → s ≡ (ltb w n && b)
-  there-yes h s g = rw (lt-ltb w n (omega (arith, e))) g
-
 module _ (sorts : List ℕ) (row n : ℕ) (e : n ≡ count sorts) where
   pub entity-past : n ≤ row → false ≡ entity_at sorts row
   entity-past h = rw (le-ltb row (count sorts) (omega (arith, e)))
@@ -74,38 +61,21 @@ module _ (sorts : List ℕ) (row n : ℕ) (e : n ≡ count sorts) where
   pub entity_in : row < n → (k : ℕ) → k ≡ word sorts row 2 → eqb k 9 ≡ entity_at sorts row
   entity_in h k g = rw (lt-ltb row (count sorts) (omega (arith, e)), g)
 
-pub text-words : (names : List ℕ) (first size a b : ℕ) → first ≡ a → size ≡ b → right_text names first size ≡ right_text names a b
-text-words names first size a b e g = rw (e, g) refl
-
-pub width-no : (width : ℕ) → width < 1 → false ≡ (leb 1 width && leb width 128)
-width-no width h = rw (lt-leb 1 width h)
-
-pub width-yes : (width : ℕ) → 1 ≤ width → leb width 128 ≡ (leb 1 width && leb width 128)
-width-yes width h = rw (le-leb 1 width h)
+-- std's test of each element
+pub all-list : {A : Type 0} (test : A → Bool) (xs : List A) → list_all test xs ≡ all test xs
+unfolding all
+all-list test [] = refl
+all-list test (x ∷ xs) = ap (λ (t : Bool). test x && t) (all-list test xs)
 
 -- fields that are lower rows
 module _ (fields : List ℕ) (row i : ℕ) where
   abbrev below : ℕ → Bool
   below = λ field. ltb field row
 
-  module _ (inside : i < length fields) where
-    below-turn : all below (drop i fields) ≡ (ltb (get_or fields i 0) row && all below (drop (i + 1) fields))
-    unfolding all
-    below-turn = rw (at_place fields i inside)
-
-    pub below-no : row ≤ get_or fields i 0 → all below (drop i fields) ≡ false
-    below-no h = below-turn ∙ ap (λ (t : Bool). t && all below (drop (i + 1) fields)) (le-ltb (get_or fields i 0) row h)
-
-    pub below-yes : get_or fields i 0 < row → all below (drop i fields) ≡ all below (drop (i + 1) fields)
-    below-yes h = below-turn ∙ ap (λ (t : Bool). t && all below (drop (i + 1) fields)) (lt-ltb (get_or fields i 0) row h)
-
-  pub below_end : i ≡ length fields → all below (drop i fields) ≡ true
+  pub below-no : i < length fields → row ≤ get_or fields i 0 → all below (drop i fields) ≡ false
   unfolding all
-  below_end h = rw (h, drop-length fields)
+  below-no inside h = rw (at_place fields i inside) (ap (λ (t : Bool). t && all below (drop (i + 1) fields)) (le-ltb (get_or fields i 0) row h))
 
 -- the size of a table
 pub table_odd : (ws : List ℕ) → (length ws % 5 ≡ 0 → ⊥) → false ≡ sized ws
 table_odd ws h = rw (ne_eqb (length ws % 5) 0 h)
-
-pub table-whole : (ws : List ℕ) → length ws % 5 ≡ 0 → (n : ℕ) → n ≡ count ws → leb n 1024 ≡ sized ws
-table-whole ws h n e = rw (eq-eqb (length ws % 5) 0 h, e)

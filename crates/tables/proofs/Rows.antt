@@ -1,8 +1,8 @@
 -- Rows by their numbers: how many a table has, what stands at each, and that one found is one of them.
 -- Assumes nothing.
+use Rattle.std.proofs.Common.{Some}
 use mathlib.Core.Path.{◌≡◌}
 use mathlib.Core.List.{List}
-use mathlib.Core.Option.{some}
 use Prim.Native.Nat.{ℕ, ◌<◌}
 use native.Mathlib.Omega.{arith}
 use lib.ListN.{length}
@@ -22,19 +22,19 @@ module _ (l : Lent) where
   function-count = length-tabulate (function_at l) 0 (count l.functions)
 
   module _ (i : ℕ) where
-    pub variable-row : i < count l.variables → at (tables_of l).variables i ≡ some (variable_at l i)
+    pub variable-row : i < count l.variables → at (tables_of l).variables i ≡ Some (variable_at l i)
     unfolding tables_of
     variable-row h = at-tabulate (variable_at l) (count l.variables) i h
 
-    pub function-row : i < count l.functions → at (tables_of l).functions i ≡ some (function_at l i)
+    pub function-row : i < count l.functions → at (tables_of l).functions i ≡ Some (function_at l i)
     unfolding tables_of
     function-row h = at-tabulate (function_at l) (count l.functions) i h
 
     module _ (name : List ℕ) where
-      pub variable-within : variable_row (tables_of l) name ≡ some i → i < count l.variables
+      pub variable-within : variable_row (tables_of l) name ≡ Some i → i < count l.variables
       unfolding variable_row
       variable-within e = let h = find-within (λ v. same_text name v.name) (tables_of l).variables i e in omega (arith, h, variable-count)
 
-      pub function-within : function_row (tables_of l) name ≡ some i → i < count l.functions
+      pub function-within : function_row (tables_of l) name ≡ Some i → i < count l.functions
       unfolding function_row
       function-within e = let h = find-within (λ f. same_text name f.name) (tables_of l).functions i e in omega (arith, h, function-count)

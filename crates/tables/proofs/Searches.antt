@@ -1,8 +1,8 @@
 -- Rows in order: one turn of a search, and what a search and a test of each row say of the list of rows.
 -- Assumes nothing.
+use Rattle.std.proofs.Common.{None, Option, Some}
 use mathlib.Core.Path.{◌≡◌, refl, sym, ap, ◌∙◌}
 use mathlib.Core.Bool.{Bool, true, false, cond, not, ◌&&◌}
-use mathlib.Core.Option.{Option, none, some}
 use Prim.Native.Nat.{ℕ, zero, suc, ◌+◌, ◌-◌, ◌≤◌, ◌<◌}
 use native.Mathlib.Nat.{add-zero}
 use native.Mathlib.Numerals.{add-one}
@@ -11,8 +11,6 @@ use lib.Dec.{eqb}
 use borrow.Author.Tests.{eqb-true, eqb-false}
 use Rattle.ground.specs.Lists.{any, all, distinct, up, find, tabulate}
 use Rattle.ground.proofs.Tests.{by_test, and-false}
-use Rattle.tables.specs.declared.find.Found.{Found}
-use Rattle.tables.specs.declared.find.Found.TheVariants.{Row, NoRow}
 use Rattle.tables.specs.Find.{found}
 use Rattle.tables.specs.Search.{is_row, first_row, every_row}
 
@@ -23,15 +21,15 @@ exchange false b c d = refl
 
 module _ (test : ℕ → Bool) (i n : ℕ) where
   module _ (inside : i < n) where
-    first-turn : first_row test i (n - i) ≡ cond (test i) (Row i) (first_row test (i + 1) (n - (i + 1)))
+    first-turn : first_row test i (n - i) ≡ cond (test i) (Some i) (first_row test (i + 1) (n - (i + 1)))
     unfolding first_row
     first-turn = let e : n - i ≡ suc (n - suc i) = omega arith in rw (e, add-one)
 
-    pub first-here : test i ≡ true → first_row test i (n - i) ≡ Row i
-    first-here e = first-turn ∙ ap (λ (t : Bool). cond t (Row i) (first_row test (i + 1) (n - (i + 1)))) e
+    pub first-here : test i ≡ true → first_row test i (n - i) ≡ Some i
+    first-here e = first-turn ∙ ap (λ (t : Bool). cond t (Some i) (first_row test (i + 1) (n - (i + 1)))) e
 
     pub first-later : test i ≡ false → first_row test i (n - i) ≡ first_row test (i + 1) (n - (i + 1))
-    first-later e = first-turn ∙ ap (λ (t : Bool). cond t (Row i) (first_row test (i + 1) (n - (i + 1)))) e
+    first-later e = first-turn ∙ ap (λ (t : Bool). cond t (Some i) (first_row test (i + 1) (n - (i + 1)))) e
 
     every-turn : every_row test i (n - i) ≡ (test i && every_row test (i + 1) (n - (i + 1)))
     unfolding every_row
@@ -44,7 +42,7 @@ module _ (test : ℕ → Bool) (i n : ℕ) where
     every-later e = every-turn ∙ ap (λ (t : Bool). t && every_row test (i + 1) (n - (i + 1))) e
 
   module _ (past : n ≤ i) where
-    pub first-none : first_row test i (n - i) ≡ NoRow
+    pub first-none : first_row test i (n - i) ≡ None
     unfolding first_row
     first-none = let e : n - i ≡ 0 = omega arith in ap (λ (k : ℕ). first_row test i k) e
 
@@ -53,17 +51,17 @@ module _ (test : ℕ → Bool) (i n : ℕ) where
     every-end = let e : n - i ≡ 0 = omega arith in ap (λ (k : ℕ). every_row test i k) e
 
 -- the place of a row, counted from one on
-abbrev found_from : ℕ → Option ℕ → Found
-found_from k none = NoRow
-found_from k (some i) = Row (k + i)
+abbrev found_from : ℕ → Option ℕ → Option ℕ
+found_from k None = None
+found_from k (Some i) = Some (k + i)
 
 from_up : (k : ℕ) (o : Option ℕ) → found_from (suc k) o ≡ found_from k (up o)
-from_up k none = refl
-from_up k (some i) = let e : suc k + i ≡ k + suc i = omega arith in ap (λ (j : ℕ). Row j) e
+from_up k None = refl
+from_up k (Some i) = let e : suc k + i ≡ k + suc i = omega arith in ap (λ (j : ℕ). Some j) e
 
 from_zero : (o : Option ℕ) → found_from 0 o ≡ found o
-from_zero none = refl
-from_zero (some i) = let e : 0 + i ≡ i = omega arith in ap (λ (j : ℕ). Row j) e
+from_zero None = refl
+from_zero (Some i) = let e : 0 + i ≡ i = omega arith in ap (λ (j : ℕ). Some j) e
 
 module _ {A : Type 0} (test : ℕ → Bool) (f : ℕ → A) (asked : A → Bool) (agree : (i : ℕ) → test i ≡ asked (f i)) where
   first-from : (k n : ℕ) → first_row test k n ≡ found_from k (find asked (tabulate f k n))
@@ -99,7 +97,7 @@ first-same test other agree k zero = refl
 first-same test other agree k (suc n) = rw (agree k, first-same test other agree (suc k) n)
 
 -- a test that no row passes, and one that some row does not pass
-pub first_absent : (test : ℕ → Bool) (k m : ℕ) → ((j : ℕ) → k ≤ j → j < k + m → test j ≡ false) → first_row test k m ≡ NoRow
+pub first_absent : (test : ℕ → Bool) (k m : ℕ) → ((j : ℕ) → k ≤ j → j < k + m → test j ≡ false) → first_row test k m ≡ None
 unfolding first_row
 first_absent test k zero h = refl
 first_absent test k (suc m) h =

@@ -1,9 +1,9 @@
 -- A sort row by its kind: what tells it from the others, its view, and the search for a sort or a name.
 -- Assumes nothing.
+use Rattle.std.proofs.Common.{Some, Option}
 use mathlib.Core.Path.{◌≡◌, refl, sym, ap, ◌∙◌}
 use mathlib.Core.Bool.{Bool, true, false, cond, ◌&&◌, ◌||◌}
 use mathlib.Core.List.{List, [], ◌∷◌}
-use mathlib.Core.Option.{some}
 use Prim.Native.Nat.{ℕ, zero, suc, ◌-◌, ◌≤◌, ◌<◌}
 use native.Mathlib.Nat.{sub-zero}
 use native.Mathlib.Omega.{arith}
@@ -12,7 +12,6 @@ use borrow.Author.Tests.{eq-eqb, ne_eqb, eqb-true, eqb-false, le-leb, leb-false,
 use Rattle.ground.specs.Lists.{at}
 use Rattle.ground.proofs.Tests.{and-true, by_test, by_order}
 use Rattle.arena.specs.Text.{same_text}
-use Rattle.tables.specs.declared.find.Found.{Found}
 use Rattle.tables.specs.declared.sort.SortRow.{SortRow}
 use Rattle.tables.specs.declared.sort.Wanted.{Wanted}
 use Rattle.tables.specs.Sort.{entity_of}
@@ -39,13 +38,6 @@ by_kind p0 p1 p2 p3 p4 p5 p6 p7 p8 p9 p (suc (suc (suc (suc (suc (suc (suc (suc 
 by_kind p0 p1 p2 p3 p4 p5 p6 p7 p8 p9 p (suc (suc (suc (suc (suc (suc (suc (suc (suc zero))))))))) = p9
 by_kind p0 p1 p2 p3 p4 p5 p6 p7 p8 p9 p (suc (suc (suc (suc (suc (suc (suc (suc (suc (suc k)))))))))) =
     p (suc (suc (suc (suc (suc (suc (suc (suc (suc (suc k)))))))))) (omega arith)
-
-pub of-kind : (kind number size k : ℕ) → kind ≡ k → sort_row_of k number size ≡ sort_row_of kind number size
-of-kind kind number size k e = ap (λ (n : ℕ). sort_row_of n number size) (sym e)
-
-pub no_kind : (kind number size : ℕ) → (kind ≡ 1 → ⊥) → (kind ≡ 2 → ⊥) → (kind ≡ 3 → ⊥) → (kind ≡ 4 → ⊥) → (kind ≡ 5 → ⊥) → (kind ≡ 6 → ⊥) → (kind ≡ 7 → ⊥) → (kind ≡ 8 → ⊥) → (kind ≡ 9 → ⊥) → SortRow.Record number size ≡ sort_row_of kind number size
-no_kind kind number size h1 h2 h3 h4 h5 h6 h7 h8 h9 =
-    rw (ne_eqb kind 1 h1, ne_eqb kind 2 h2, ne_eqb kind 3 h3, ne_eqb kind 4 h4, ne_eqb kind 5 h5, ne_eqb kind 6 h6, ne_eqb kind 7 h7, ne_eqb kind 8 h8, ne_eqb kind 9 h9)
 
 -- what tells a row from the others begins with its kind, where a record's is an entity's
 abbrev head_of : ℕ → ℕ
@@ -143,13 +135,13 @@ module _ (l : Lent) where
   wanted-same (Wanted.Option row) i = key-at 7 row refl i
   wanted-same (Wanted.Set row) i = key-at 8 row refl i
 
-pub finds_sort : (ws : List ℕ) (w : Wanted) (r : Found) → r ≡ first_row (is_kind ws (key_of w).kind (key_of w).number) 0 (count ws - 0) → FindsSort ws (sort_wanted w) r
+pub finds_sort : (ws : List ℕ) (w : Wanted) (r : Option ℕ) → r ≡ first_row (is_kind ws (key_of w).kind (key_of w).number) 0 (count ws - 0) → FindsSort ws (sort_wanted w) r
 unfolding sort_row tables_of
 finds_sort ws w r e l h =
     e ∙ rw (sym h, sub-zero (count l.sorts))
     (first_found (is_kind l.sorts (key_of w).kind (key_of w).number) (sort_at l) (same_sort (sort_wanted w)) (wanted-same l w) (count l.sorts))
 
-pub finds_named : (ws names name : List ℕ) (r : Found) → r ≡ first_row (is_named ws names name) 0 (count ws - 0) → FindsNamed ws names name r
+pub finds_named : (ws names name : List ℕ) (r : Option ℕ) → r ≡ first_row (is_named ws names name) 0 (count ws - 0) → FindsNamed ws names name r
 unfolding named_sort sort_row tables_of
 finds_named ws names name r e l h g =
     e ∙ rw (sym h, sym g, sub-zero (count l.sorts))
@@ -159,7 +151,7 @@ finds_named ws names name r e l h g =
 module _ (l : Lent) (i : ℕ) where
   module _ (number size : ℕ) where
     abbrev Meant : ℕ → Type 0
-    Meant kind = meant l i (sort_row_of kind number size) ≡ some (sort_of kind (name_at l.names l.sorts i) number (part l.fields number size))
+    Meant kind = meant l i (sort_row_of kind number size) ≡ Some (sort_of kind (name_at l.names l.sorts i) number (part l.fields number size))
 
     meant-other : (kind : ℕ) → 9 < kind → Meant kind
     meant-other kind h =
@@ -174,32 +166,6 @@ module _ (l : Lent) (i : ℕ) where
       by_order i (count l.sorts)
       (λ h. rw (lt-ltb i (count l.sorts) h) (at-tabulate (sort_at l) (count l.sorts) i h ∙ sym (meant-kind (word l.sorts i 3) (word l.sorts i 4) (word l.sorts i 2))))
       (λ h. rw (le-ltb i (count l.sorts) h) (at-past (sort_at l) 0 (count l.sorts) i h))
-
--- the tests of a row, by what the code looks at
-module _ (ws : List ℕ) (i w : ℕ) (e : w ≡ word ws i 2) where
-  module _ (kind wanted : ℕ) where
-    pub kind-no : (w ≡ kind → ⊥) → false ≡ is_kind ws kind wanted i
-    kind-no h = rw (sym e, ne_eqb w kind h)
-
-    module _ (h : w ≡ kind) where
-      pub kind-yes : kind < 6 → true ≡ is_kind ws kind wanted i
-      kind-yes g = rw (sym e, eq-eqb w kind h, lt-ltb kind 6 g)
-
-      pub kind-number : 6 ≤ kind → (n : ℕ) → n ≡ word ws i 3 → eqb n wanted ≡ is_kind ws kind wanted i
-      kind-number g n q = rw (sym e, eq-eqb w kind h, le-ltb kind 6 g, q)
-
-  module _ (names name : List ℕ) (b : Bool) (q : b ≡ has_name w) where
-    pub named-no : b ≡ false → false ≡ is_named ws names name i
-    named-no h = rw (sym e, sym q, h)
-
-    pub named-yes : b ≡ true → (r : Bool) → r ≡ same_text name (name_at names ws i) → r ≡ is_named ws names name i
-    named-yes h r g = rw (g, sym e, sym q, h)
-
-pub name-zero : (kind : ℕ) → kind ≡ 0 → true ≡ has_name kind
-name-zero kind h = rw (eq-eqb kind 0 h)
-
-pub name-high : (kind : ℕ) → (kind ≡ 0 → ⊥) → leb 9 kind ≡ has_name kind
-name-high kind h = rw (ne_eqb kind 0 h)
 
 pub row-past : (ws : List ℕ) (i n : ℕ) → n ≡ count ws → n ≤ i → SortRow.NoRow ≡ sort_row_at ws i
 unfolding sort_row_at

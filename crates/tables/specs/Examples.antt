@@ -1,6 +1,5 @@
 -- Document 01, "Sorts and literals" and "The listing": tables and names beside the rules.
-use Rattle.std.specs.Prelude.{◌≡◌, refl, true, false, List, [], ◌∷◌, ◌++◌, map, ℕ}
-use Rattle.std.proofs.Math.Option.{none, some}
+use Rattle.std.specs.Prelude.{◌≡◌, refl, true, false, List, [], ◌∷◌, ◌++◌, map, ℕ, None, Some}
 use Rattle.ground.specs.Bytes.{bytes}
 use Rattle.ground.specs.Lists.{any, all, distinct, find, at, tabulate}
 use Rattle.utf8.specs.Octets.{octets, utf8}
@@ -90,6 +89,6 @@ unfolding sample passes formed lawful tables_of tabulate all distinct any at sor
 lawful-sample = refl
 
 found_rows : sort_row (tables_of sample) (option_of 1) ∷ sort_row (tables_of sample) (option_of 0) ∷ named_sort (tables_of sample) (bytes "R") ∷ variable_row (tables_of sample) (bytes "x") ∷ []
-    ≡ some 2 ∷ none ∷ some 4 ∷ some 0 ∷ []
+    ≡ Some 2 ∷ None ∷ Some 4 ∷ Some 0 ∷ []
 unfolding sample tables_of tabulate sort_row named_sort variable_row find same_text
 found_rows = refl

@@ -1,17 +1,14 @@
 -- Document 01, "Sorts and literals" and "The model walk": a name or a sort to its row, the first one that has it.
-use Rattle.std.specs.Prelude.{List, ℕ}
-use Rattle.std.proofs.Math.Option.{Option, none, some}
+use Rattle.std.specs.Prelude.{List, ℕ, None, Option, Some}
 use Rattle.ground.specs.Lists.{find}
 use Rattle.arena.specs.Text.{same_text}
-use Rattle.tables.specs.declared.find.Found.{Found}
-use Rattle.tables.specs.declared.find.Found.TheVariants.{Row, NoRow}
 use Rattle.tables.specs.Sort.{Sort, entity_of, Tables}
 use Rattle.tables.specs.Rules.{same_sort}
 
 -- the answer of a call
-abbrev pub found : Option ℕ → Found
-found none = NoRow
-found (some i) = Row i
+abbrev pub found : Option ℕ → Option ℕ
+found None = None
+found (Some i) = Some i
 
 module _ (t : Tables) where
   unfoldable pub sort_row : Sort → Option ℕ

@@ -1,6 +1,5 @@
 -- Document 01, "Sorts and literals": 25 exactly when a rule is broken.
-use Rattle.std.specs.Prelude.{Bool, true, false, not, ◌&&◌, List, [], ◌∷◌, ℕ, suc, leb, ltb, length}
-use Rattle.std.proofs.Math.Option.{Option, none, some}
+use Rattle.std.specs.Prelude.{Bool, true, false, not, ◌&&◌, List, [], ◌∷◌, ℕ, suc, leb, ltb, length, None, Option, Some}
 use Rattle.ground.specs.Lists.{all, at, distinct}
 use Rattle.utf8.specs.Octets.{utf8}
 use Rattle.lexicon.specs.Symbol.{one_symbol}
@@ -74,15 +73,15 @@ function_right t f = name_right f.name && present t f.argument && present t f.re
 
 -- the row is an entity's
 abbrev pub is_entity : Option Sort → Bool
-is_entity none = false
-is_entity (some bool) = false
-is_entity (some string) = false
-is_entity (some (ext e)) = false
-is_entity (some (bit_vec width)) = false
-is_entity (some (option_of row)) = false
-is_entity (some (set_of row)) = false
-is_entity (some (entity_of name)) = true
-is_entity (some (record_of name fields)) = false
+is_entity None = false
+is_entity (Some bool) = false
+is_entity (Some string) = false
+is_entity (Some (ext e)) = false
+is_entity (Some (bit_vec width)) = false
+is_entity (Some (option_of row)) = false
+is_entity (Some (set_of row)) = false
+is_entity (Some (entity_of name)) = true
+is_entity (Some (record_of name fields)) = false
 
 abbrev pub member_right : Tables → Member → Bool
 member_right t m = own_name m.name && is_entity (at t.sorts m.entity) && leb (length m.text) name_limit && utf8 m.text

@@ -1,6 +1,5 @@
 -- Document 01, "Sorts and literals", as words: what a sort row says, and what tells it from the others.
-use Rattle.std.specs.Prelude.{Bool, true, cond, ◌&&◌, ◌||◌, List, ℕ, leb, ltb, eqb}
-use Rattle.std.proofs.Math.Option.{Option, none, some}
+use Rattle.std.specs.Prelude.{Bool, true, cond, ◌&&◌, ◌||◌, List, ℕ, leb, ltb, eqb, None, Option, Some}
 use Rattle.arena.specs.Text.{same_text}
 use Rattle.tables.specs.declared.sort.SortRow.{SortRow}
 use Rattle.tables.specs.declared.sort.Wanted.{Wanted}
@@ -28,17 +27,17 @@ sort_row_at ws i = cond (ltb i (count ws)) (sort_row_of (word ws i 2) (word ws i
 
 -- the sort that row i stands for
 abbrev pub meant : Lent → ℕ → SortRow → Option Sort
-meant l i SortRow.Bool = some bool
-meant l i SortRow.String = some string
-meant l i SortRow.Decimal = some (ext decimal)
-meant l i SortRow.Datetime = some (ext datetime)
-meant l i SortRow.Duration = some (ext duration)
-meant l i (SortRow.BitVec width) = some (bit_vec width)
-meant l i (SortRow.Option row) = some (option_of row)
-meant l i (SortRow.Set row) = some (set_of row)
-meant l i SortRow.Entity = some (entity_of (name_at l.names l.sorts i))
-meant l i (SortRow.Record first size) = some (record_of (name_at l.names l.sorts i) (part l.fields first size))
-meant l i SortRow.NoRow = none
+meant l i SortRow.Bool = Some bool
+meant l i SortRow.String = Some string
+meant l i SortRow.Decimal = Some (ext decimal)
+meant l i SortRow.Datetime = Some (ext datetime)
+meant l i SortRow.Duration = Some (ext duration)
+meant l i (SortRow.BitVec width) = Some (bit_vec width)
+meant l i (SortRow.Option row) = Some (option_of row)
+meant l i (SortRow.Set row) = Some (set_of row)
+meant l i SortRow.Entity = Some (entity_of (name_at l.names l.sorts i))
+meant l i (SortRow.Record first size) = Some (record_of (name_at l.names l.sorts i) (part l.fields first size))
+meant l i SortRow.NoRow = None
 
 -- a sort without a name, its kind and its number
 abbrev pub sort_wanted : Wanted → Sort

@@ -19,20 +19,17 @@ fn is_alone(rows: &[u64], names: &[u8], row: usize, mark: u8) -> bool
         return true;
     }
     let range = clamp(word(rows, row, 0), word(rows, row, 1), names.len());
-    let start = range.start;
-    let end = range.end;
-    !is_row(find_name(rows, names, &names[start..end], row + 1))
+    !is_row(find_name(rows, names, &names[range.start..range.end], row + 1))
 }
 
+// Stays: one loop for names and sorts takes two closures, the second called only by what the first answered: a longer contract.
 pub fn are_alone(rows: &[u64], names: &[u8]) -> bool
     ensures { result ≡ every_row (alone names.now rows.now) 0 (count rows.now) }
 {
     let mut marks = [0u8; SLOTS];
-    let mut left = count(rows);
-    while 0 < left {
-        left -= 1;
-        let slot = name_slot(rows, names, left, 0);
-        if !is_alone(rows, names, left, marks[slot]) {
+    for row in (0..count(rows)).rev() {
+        let slot = name_slot(rows, names, row, 0);
+        if !is_alone(rows, names, row, marks[slot]) {
             return false;
         }
         marks[slot] = 1;
@@ -51,9 +48,7 @@ fn is_alone_sort(sorts: &[u64], names: &[u8], row: usize, mark: u8) -> bool
     let kind = word(sorts, row, 2);
     if has_name(kind) {
         let range = clamp(word(sorts, row, 0), word(sorts, row, 1), names.len());
-        let start = range.start;
-        let end = range.end;
-        return !is_row(find_named(sorts, names, &names[start..end], row + 1));
+        return !is_row(find_named(sorts, names, &names[range.start..range.end], row + 1));
     }
     !is_row(find_kind(sorts, kind, word(sorts, row, 3), row + 1))
 }
@@ -62,11 +57,9 @@ pub fn are_alone_sorts(sorts: &[u64], names: &[u8]) -> bool
     ensures { result ≡ every_row (alone_sort sorts.now names.now) 0 (count sorts.now) }
 {
     let mut marks = [0u8; SLOTS];
-    let mut left = count(sorts);
-    while 0 < left {
-        left -= 1;
-        let slot = sort_slot(sorts, names, left);
-        if !is_alone_sort(sorts, names, left, marks[slot]) {
+    for row in (0..count(sorts)).rev() {
+        let slot = sort_slot(sorts, names, row);
+        if !is_alone_sort(sorts, names, row, marks[slot]) {
             return false;
         }
         marks[slot] = 1;

@@ -8,19 +8,10 @@ ghost use Rattle.tables.specs.Search.{is_row, first_row};
 use crate::row::{clamp, count, is_inside, word};
 use arena::same;
 
-#[derive(Clone, Copy)]
-pub enum Found {
-    Row(usize),
-    NoRow,
-}
-
-pub fn is_row(found: Found) -> bool
+pub fn is_row(found: Option<usize>) -> bool
     ensures { result ≡ is_row found }
 {
-    match found {
-        Found::Row(_) => true,
-        Found::NoRow => false,
-    }
+    found.is_some()
 }
 
 // A quick answer, no only where the row does not have the name: names of one table mostly differ in length or in the last byte.
@@ -48,13 +39,12 @@ pub fn is_named(rows: &[u64], names: &[u8], row: usize, name: &[u8]) -> bool
     ensures { result ≡ same_text name.now (name_at names.now rows.now row) }
 {
     let range = clamp(word(rows, row, 0), word(rows, row, 1), names.len());
-    let start = range.start;
-    let end = range.end;
-    same(name, &names[start..end])
+    same(name, &names[range.start..range.end])
 }
 
-// The rows of all tables begin with their name, so one loop serves them; the check goes on behind a row by it.
-pub fn find_name(rows: &[u64], names: &[u8], name: &[u8], from: usize) -> Found
+// The rows of all tables begin with their name, so one search serves them; the check goes on behind a row by it.
+// Stays: a `while`, since a `for` over the rows tests each row's place a second time: lookups in full tables took a seventh longer.
+pub fn find_name(rows: &[u64], names: &[u8], name: &[u8], from: usize) -> Option<usize>
     ensures { result ≡ first_row (λ i. same_text name.now (name_at names.now rows.now i)) from (count rows.now - from) }
 {
     let rows_there = count(rows);
@@ -65,26 +55,26 @@ pub fn find_name(rows: &[u64], names: &[u8], name: &[u8], from: usize) -> Found
             continue;
         }
         if is_named(rows, names, i, name) {
-            return Found::Row(i);
+            return Some(i);
         }
         i += 1;
     }
-    Found::NoRow
+    None
 }
 
-pub fn find_variable(variables: &[u64], names: &[u8], name: &[u8]) -> Found
+pub fn find_variable(variables: &[u64], names: &[u8], name: &[u8]) -> Option<usize>
     ensures { FindsVariable variables.now names.now name.now result }
 {
     find_name(variables, names, name, 0)
 }
 
-pub fn find_function(functions: &[u64], names: &[u8], name: &[u8]) -> Found
+pub fn find_function(functions: &[u64], names: &[u8], name: &[u8]) -> Option<usize>
     ensures { FindsFunction functions.now names.now name.now result }
 {
     find_name(functions, names, name, 0)
 }
 
-pub fn find_member(members: &[u64], names: &[u8], name: &[u8]) -> Found
+pub fn find_member(members: &[u64], names: &[u8], name: &[u8]) -> Option<usize>
     ensures { FindsMember members.now names.now name.now result }
 {
     find_name(members, names, name, 0)

@@ -10,7 +10,7 @@ mod rules;
 mod slot;
 mod sort;
 
-pub use check::{Checked, check_tables};
-pub use find::{Found, find_function, find_member, find_variable};
+pub use check::check_tables;
+pub use find::{find_function, find_member, find_variable};
 pub use row::{Range, STRIDE, clamp, count, word};
 pub use sort::{SortRow, Wanted, find_sort, find_sort_name, sort_at};

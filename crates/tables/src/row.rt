@@ -31,10 +31,7 @@ pub fn is_inside(first: u64, size: u64, most: usize) -> bool
     ensures { result ≡ leb (first + size) most }
 {
     let room = most as u64;
-    if room < first {
-        return false;
-    }
-    size <= room - first
+    first <= room && size <= room - first
 }
 
 // What lies from start to end.

@@ -21,10 +21,7 @@ const LAST_KIND: u64 = 10;
 fn is_right(name: &[u8]) -> bool
     ensures { result ≡ name_right name.now }
 {
-    if MOST_BYTES < name.len() {
-        return false;
-    }
-    is_symbol(name)
+    name.len() <= MOST_BYTES && is_symbol(name)
 }
 
 fn is_name(rows: &[u64], names: &[u8], row: usize) -> bool
@@ -36,9 +33,7 @@ fn is_name(rows: &[u64], names: &[u8], row: usize) -> bool
         return false;
     }
     let range = clamp(first, size, names.len());
-    let start = range.start;
-    let end = range.end;
-    is_right(&names[start..end])
+    is_right(&names[range.start..range.end])
 }
 
 // The name of a sort or an enum member.
@@ -49,9 +44,7 @@ fn is_own(rows: &[u64], names: &[u8], row: usize) -> bool
         return false;
     }
     let range = clamp(word(rows, row, 0), word(rows, row, 1), names.len());
-    let start = range.start;
-    let end = range.end;
-    !is_kept(&names[start..end])
+    !is_kept(&names[range.start..range.end])
 }
 
 fn is_text(names: &[u8], first: u64, size: u64) -> bool
@@ -61,25 +54,16 @@ fn is_text(names: &[u8], first: u64, size: u64) -> bool
         return false;
     }
     let text = clamp(first, size, names.len());
-    let start = text.start;
-    let end = text.end;
-    if MOST_BYTES < end - start {
+    if MOST_BYTES < text.end - text.start {
         return false;
     }
-    is_utf8(&names[start..end])
+    is_utf8(&names[text.start..text.end])
 }
 
 fn are_below(fields: &[u64], row: u64) -> bool
     ensures { result ≡ all (λ field. ltb field row) fields.now }
 {
-    let mut i = 0;
-    while i < fields.len() {
-        if row <= fields[i] {
-            return false;
-        }
-        i += 1;
-    }
-    true
+    fields.iter().all(|field| *field < row)
 }
 
 // A record's fields, so many from the first on.
@@ -90,12 +74,10 @@ fn are_fields(fields: &[u64], first: u64, size: u64, row: usize) -> bool
         return false;
     }
     let range = clamp(first, size, fields.len());
-    let start = range.start;
-    let end = range.end;
-    if MOST_FIELDS < end - start {
+    if MOST_FIELDS < range.end - range.start {
         return false;
     }
-    are_below(&fields[start..end], row as u64)
+    are_below(&fields[range.start..range.end], row as u64)
 }
 
 // By the kind: the first ones have nothing else, then come a width, a row, a name, a name and fields.
@@ -131,50 +113,33 @@ pub fn is_sort(sorts: &[u64], fields: &[u64], names: &[u8], row: usize) -> bool
 fn is_width(width: u64) -> bool
     ensures { result ≡ (leb 1 width && leb width 128) }
 {
-    if width < 1 {
-        return false;
-    }
-    width <= MOST_WIDTH
+    1 <= width && width <= MOST_WIDTH
 }
 
 pub fn is_variable(variables: &[u64], names: &[u8], row: usize, sorts: usize) -> bool
     ensures { result ≡ right_variable variables.now names.now sorts row }
 {
-    if !is_name(variables, names, row) {
-        return false;
-    }
-    word(variables, row, 2) < sorts as u64
+    is_name(variables, names, row) && word(variables, row, 2) < sorts as u64
 }
 
 pub fn is_function(functions: &[u64], names: &[u8], row: usize, sorts: usize) -> bool
     ensures { result ≡ right_function functions.now names.now sorts row }
 {
-    if !is_name(functions, names, row) {
-        return false;
-    }
-    if sorts as u64 <= word(functions, row, 2) {
-        return false;
-    }
-    word(functions, row, 3) < sorts as u64
+    is_name(functions, names, row)
+        && word(functions, row, 2) < sorts as u64
+        && word(functions, row, 3) < sorts as u64
 }
 
 fn is_entity(sorts: &[u64], row: u64) -> bool
     ensures { result ≡ entity_at sorts.now row }
 {
-    if count(sorts) as u64 <= row {
-        return false;
-    }
-    word(sorts, row as usize, 2) == ENTITY
+    row < count(sorts) as u64 && word(sorts, row as usize, 2) == ENTITY
 }
 
 pub fn is_member(members: &[u64], sorts: &[u64], names: &[u8], row: usize) -> bool
     ensures { result ≡ right_member members.now sorts.now names.now row }
 {
-    if !is_own(members, names, row) {
-        return false;
-    }
-    if !is_entity(sorts, word(members, row, 2)) {
-        return false;
-    }
-    is_text(names, word(members, row, 3), word(members, row, 4))
+    is_own(members, names, row)
+        && is_entity(sorts, word(members, row, 2))
+        && is_text(names, word(members, row, 3), word(members, row, 4))
 }

@@ -27,10 +27,8 @@ fn slot_from(start: usize, text: &[u8]) -> usize
     ensures { result ≡ slot_from start text.now }
 {
     let mut slot = start;
-    let mut i = 0;
-    while i < text.len() {
-        slot = next_slot(slot, text[i] as u64);
-        i += 1;
+    for byte in text {
+        slot = next_slot(slot, u64::from(*byte));
     }
     slot
 }
@@ -41,9 +39,7 @@ pub fn name_slot(rows: &[u64], names: &[u8], row: usize, slot: usize) -> usize
     ensures { result ≡ slot_from slot (name_at names.now rows.now row) }
 {
     let range = clamp(word(rows, row, 0), word(rows, row, 1), names.len());
-    let start = range.start;
-    let end = range.end;
-    slot_from(slot, &names[start..end])
+    slot_from(slot, &names[range.start..range.end])
 }
 
 // Of what tells a sort row from the others.

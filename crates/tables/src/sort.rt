@@ -5,7 +5,7 @@ ghost use Rattle.tables.specs.Search.{first_row};
 ghost use Rattle.tables.specs.View.{sort_row_of, sort_row_at, key_of, sort_wanted, is_kind, has_name, is_named};
 ghost use Rattle.tables.specs.Lookup.{FindsSort, FindsNamed};
 
-use crate::find::{Found, is_named, may_be_named};
+use crate::find::{is_named, may_be_named};
 use crate::row::{count, word};
 
 // What a sort row says; a name is words 0 and 1 of the row, a record's fields are so many from the first on.
@@ -24,6 +24,7 @@ pub enum SortRow {
     NoRow,
 }
 
+// Stays: a kind is a word of the lent tables, which C writes; `SortRow` is the view of it by name, and `NoRow` one of its eleven ways, so it is no Option of the other ten.
 fn sort_of(kind: u64, number: u64, size: u64) -> SortRow
     ensures { result ≡ sort_row_of kind number size }
 {
@@ -109,30 +110,25 @@ fn key_of(wanted: Wanted) -> Key
 fn is_kind(sorts: &[u64], row: usize, kind: u64, number: u64) -> bool
     ensures { result ≡ is_kind sorts.now kind number row }
 {
-    if word(sorts, row, 2) != kind {
-        return false;
-    }
-    if kind < BIT_VEC {
-        return true;
-    }
-    word(sorts, row, 3) == number
+    word(sorts, row, 2) == kind && (kind < BIT_VEC || word(sorts, row, 3) == number)
 }
 
-pub fn find_kind(sorts: &[u64], kind: u64, number: u64, from: usize) -> Found
+// Stays: a `while`, as `find_name`'s.
+pub fn find_kind(sorts: &[u64], kind: u64, number: u64, from: usize) -> Option<usize>
     ensures { result ≡ first_row (is_kind sorts.now kind number) from (count sorts.now - from) }
 {
     let rows_there = count(sorts);
     let mut i = from;
     while i < rows_there {
         if is_kind(sorts, i, kind, number) {
-            return Found::Row(i);
+            return Some(i);
         }
         i += 1;
     }
-    Found::NoRow
+    None
 }
 
-pub fn find_sort(sorts: &[u64], wanted: Wanted) -> Found
+pub fn find_sort(sorts: &[u64], wanted: Wanted) -> Option<usize>
     ensures { FindsSort sorts.now (sort_wanted wanted) result }
 {
     let key = key_of(wanted);
@@ -143,22 +139,17 @@ pub fn find_sort(sorts: &[u64], wanted: Wanted) -> Found
 pub fn has_name(kind: u64) -> bool
     ensures { result ≡ has_name kind }
 {
-    if kind == 0 {
-        return true;
-    }
-    ENTITY <= kind
+    kind == 0 || ENTITY <= kind
 }
 
 fn is_named_sort(sorts: &[u64], names: &[u8], row: usize, name: &[u8]) -> bool
     ensures { result ≡ is_named sorts.now names.now name.now row }
 {
-    if !has_name(word(sorts, row, 2)) {
-        return false;
-    }
-    is_named(sorts, names, row, name)
+    has_name(word(sorts, row, 2)) && is_named(sorts, names, row, name)
 }
 
-pub fn find_named(sorts: &[u64], names: &[u8], name: &[u8], from: usize) -> Found
+// Stays: a `while`, as `find_name`'s.
+pub fn find_named(sorts: &[u64], names: &[u8], name: &[u8], from: usize) -> Option<usize>
     ensures { result ≡ first_row (is_named sorts.now names.now name.now) from (count sorts.now - from) }
 {
     let rows_there = count(sorts);
@@ -169,15 +160,15 @@ pub fn find_named(sorts: &[u64], names: &[u8], name: &[u8], from: usize) -> Foun
             continue;
         }
         if is_named_sort(sorts, names, i, name) {
-            return Found::Row(i);
+            return Some(i);
         }
         i += 1;
     }
-    Found::NoRow
+    None
 }
 
 // An entity's or a record's row.
-pub fn find_sort_name(sorts: &[u64], names: &[u8], name: &[u8]) -> Found
+pub fn find_sort_name(sorts: &[u64], names: &[u8], name: &[u8]) -> Option<usize>
     ensures { FindsNamed sorts.now names.now name.now result }
 {
     find_named(sorts, names, name, 0)

@@ -1,9 +1,9 @@
 -- Lines that lawful rows are written as are read as those rows.
 -- Assumes nothing.
+use Rattle.std.proofs.Common.{None, Option, Some}
 use mathlib.Core.Path.{◌≡◌, refl, sym, ap, ap₂, ◌∙◌}
 use mathlib.Core.Bool.{Bool, true, false, ◌&&◌, true≢false}
 use mathlib.Core.List.{List, [], ◌∷◌, ◌++◌, map, append_assoc, append-nil}
-use mathlib.Core.Option.{Option, none, some}
 use Prim.Native.Nat.{ℕ, zero, suc, ◌+◌, ◌≤◌, ◌<◌}
 use native.Mathlib.Omega.{arith}
 use lib.Dec.{eqb, leb, ltb}
@@ -32,26 +32,26 @@ use Rattle.tables_text.proofs.Walks.{walk-stop, walk-goes}
 
 -- a line without a line feed in it is cut where it ends
 module _ {A : Type 0} (row : List ℕ → Option A) where
-  pub line-back : (s r : List ℕ) (x : A) → clear line_feed s ≡ true → row s ≡ some x → line_row row (s ++ line_feed ∷ r) ≡ some x
+  pub line-back : (s r : List ℕ) (x : A) → clear line_feed s ≡ true → row s ≡ Some x → line_row row (s ++ line_feed ∷ r) ≡ Some x
   unfolding line_row
   line-back s r x h q = ap (λ (o : Option Cut). over o (λ c. row c.word)) (cut_clear line_feed s r h) ∙ q
 
   -- no row starts with this byte
-  pub line_other : (b : ℕ) (s : List ℕ) → ((w : List ℕ) → row (b ∷ w) ≡ none) → apart line_feed b ≡ true → line_row row (b ∷ s) ≡ none
+  pub line_other : (b : ℕ) (s : List ℕ) → ((w : List ℕ) → row (b ∷ w) ≡ None) → apart line_feed b ≡ true → line_row row (b ∷ s) ≡ None
   unfolding line_row cut_at span_by
   line_other b s f h = rw h (by_test (ltb (suc (span_to line_feed s)) (suc (length s))) (λ e. rw e (f (take (span_to line_feed s) s))) (λ e. rw e))
 
-  pub line-empty : line_row row [] ≡ none
+  pub line-empty : line_row row [] ≡ None
   unfolding line_row cut_at span_by
   line-empty = refl
 
 -- rows one after the other are read back, as many as there are
-module _ {A : Type 0} (row : List ℕ → Option A) (write : A → List ℕ) (sound : (s : List ℕ) (x : A) → row s ≡ some x → write x ≡ spelled.ended s) where
+module _ {A : Type 0} (row : List ℕ → Option A) (write : A → List ℕ) (sound : (s : List ℕ) (x : A) → row s ≡ Some x → write x ≡ spelled.ended s) where
   pub data Reads : List A → Type 0 where
     nil : Reads []
-    cons : {x : A} {xs : List A} → ((r : List ℕ) → line_row row (write x ++ r) ≡ some x) → Reads xs → Reads (x ∷ xs)
+    cons : {x : A} {xs : List A} → ((r : List ℕ) → line_row row (write x ++ r) ≡ Some x) → Reads xs → Reads (x ∷ xs)
 
-  pub walk-back : (xs : List A) → Reads xs → (most : ℕ) → length xs ≤ most → (r : List ℕ) → line_row row r ≡ none → walk row most (lines write xs ++ r) ≡ record { rows = xs; rest = r }
+  pub walk-back : (xs : List A) → Reads xs → (most : ℕ) → length xs ≤ most → (r : List ℕ) → line_row row r ≡ None → walk row most (lines write xs ++ r) ≡ record { rows = xs; rest = r }
   unfolding lines
   walk-back [] f most h r q = walk-stop row most r q
   walk-back (x ∷ xs) f zero h r q = absurd (omega arith)
@@ -65,7 +65,7 @@ module _ {A : Type 0} (row : List ℕ → Option A) (write : A → List ℕ) (so
 
 -- a variable's line
 module _ (name : List ℕ) (spaceless : clear space name ≡ true) (feedless : clear line_feed name ≡ true) where
-  variable-reads : (n : ℕ) → n < 10000 → variable_in (bytes "var=" ++ (name ++ space ∷ decimal n)) ≡ some (record { name = name; sort = n })
+  variable-reads : (n : ℕ) → n < 10000 → variable_in (bytes "var=" ++ (name ++ space ∷ decimal n)) ≡ Some (record { name = name; sort = n })
   unfolding variable_in variable_after begins
   variable-reads n h = rw (cut_clear space name (decimal n) spaceless) (rw (numeral-back n h))
 
@@ -73,7 +73,7 @@ module _ (name : List ℕ) (spaceless : clear space name ≡ true) (feedless : c
   unfolding all
   variable-clear n = clear-append line_feed name (space ∷ decimal n) feedless (decimal-clear line_feed (omega arith) n)
 
-  function-reads : (n m : ℕ) → n < 10000 → m < 10000 → function_in (bytes "fun=" ++ (name ++ space ∷ (decimal n ++ space ∷ decimal m))) ≡ some (record { name = name; argument = n; result = m })
+  function-reads : (n m : ℕ) → n < 10000 → m < 10000 → function_in (bytes "fun=" ++ (name ++ space ∷ (decimal n ++ space ∷ decimal m))) ≡ Some (record { name = name; argument = n; result = m })
   unfolding function_in function_after begins led
   function-reads n m h k =
       rw (cut_clear space name (decimal n ++ space ∷ decimal m) spaceless)
@@ -85,7 +85,7 @@ module _ (name : List ℕ) (spaceless : clear space name ≡ true) (feedless : c
       clear-append line_feed name (space ∷ (decimal n ++ space ∷ decimal m)) feedless
       (clear-append line_feed (decimal n) (space ∷ decimal m) (decimal-clear line_feed (omega arith) n) (decimal-clear line_feed (omega arith) m))
 
-  member-reads : (n : ℕ) (text : List ℕ) → n < 10000 → member_in (bytes "enum=" ++ (name ++ space ∷ (decimal n ++ space ∷ text))) ≡ some (record { name = name; entity = n; text = text })
+  member-reads : (n : ℕ) (text : List ℕ) → n < 10000 → member_in (bytes "enum=" ++ (name ++ space ∷ (decimal n ++ space ∷ text))) ≡ Some (record { name = name; entity = n; text = text })
   unfolding member_in member_after begins led
   member-reads n text h =
       rw (cut_clear space name (decimal n ++ space ∷ text) spaceless)
@@ -107,7 +107,7 @@ module _ (t : Tables) (few : length t.sorts ≤ row_limit) where
   small : (n : ℕ) → present t n ≡ true → n < 10000
   small n h = omega (arith, ltb-true n (length t.sorts) h)
 
-  variable-back : (v : Variable) → variable_right t v ≡ true → (r : List ℕ) → line_row variable_in (variable_line v ++ r) ≡ some v
+  variable-back : (v : Variable) → variable_right t v ≡ true → (r : List ℕ) → line_row variable_in (variable_line v ++ r) ≡ Some v
   unfolding joined
   variable-back v h r =
       let n = both_left (name_right v.name) (present t v.sort) h in
@@ -116,7 +116,7 @@ module _ (t : Tables) (few : length t.sorts ≤ row_limit) where
       ∙ line-back variable_in (bytes "var=" ++ (v.name ++ space ∷ decimal v.sort)) r v (variable-clear v.name (name_spaceless v.name n) (name_feedless v.name n) v.sort)
       (variable-reads v.name (name_spaceless v.name n) (name_feedless v.name n) v.sort k)
 
-  function-back : (f : Function) → function_right t f ≡ true → (r : List ℕ) → line_row function_in (function_line f ++ r) ≡ some f
+  function-back : (f : Function) → function_right t f ≡ true → (r : List ℕ) → line_row function_in (function_line f ++ r) ≡ Some f
   unfolding joined
   function-back f h r =
       let a = both_left (name_right f.name && present t f.argument) (present t f.result) h in
@@ -128,7 +128,7 @@ module _ (t : Tables) (few : length t.sorts ≤ row_limit) where
       (function-clear f.name (name_spaceless f.name n) (name_feedless f.name n) f.argument f.result)
       (function-reads f.name (name_spaceless f.name n) (name_feedless f.name n) f.argument f.result k m)
 
-  member_back : (m : Member) → member_right t m ≡ true → one_line m.text ≡ true → (r : List ℕ) → line_row member_in (member_line m ++ r) ≡ some m
+  member_back : (m : Member) → member_right t m ≡ true → one_line m.text ≡ true → (r : List ℕ) → line_row member_in (member_line m ++ r) ≡ Some m
   unfolding joined
   member_back m h o r =
       let a = both_left (own_name m.name && is_entity (at t.sorts m.entity) && leb (length m.text) name_limit) (utf8 m.text) h in
@@ -182,7 +182,7 @@ further-back (m ∷ rows) name h =
           ∙ pieces_span j ∙ ap₂ (λ (x : List ℕ) (y : List (List ℕ)). x ∷ y) f.0 f.1,
     )
 
-numerals-back : (i : ℕ) → i ≤ 10000 → (rows : List ℕ) → all (λ row. ltb row i) rows ≡ true → numerals (map decimal rows) ≡ some rows
+numerals-back : (i : ℕ) → i ≤ 10000 → (rows : List ℕ) → all (λ row. ltb row i) rows ≡ true → numerals (map decimal rows) ≡ Some rows
 unfolding numerals all
 numerals-back i b [] h = refl
 numerals-back i b (n ∷ rows) h =
@@ -190,27 +190,27 @@ numerals-back i b (n ∷ rows) h =
     (rw (numerals-back i b rows (both_right (ltb n i) (all (λ row. ltb row i) rows) h)))
 
 record_back : (i : ℕ) → i ≤ 10000 → (name rows : List ℕ) → clear space name ≡ true → all (λ row. ltb row i) rows ≡ true
-    → record_in (joined (bytes " ") (name ∷ map decimal rows)) ≡ some (record_of name rows)
+    → record_in (joined (bytes " ") (name ∷ map decimal rows)) ≡ Some (record_of name rows)
 unfolding record_in
 record_back i b name rows h q =
     let f = further-back rows name h in
-    ap₂ (λ (x : List (List ℕ)) (y : List ℕ). over (numerals x) (λ ns. some (record_of y ns))) f.1 f.0
-    ∙ ap (λ (o : Option (List ℕ)). over o (λ ns. some (record_of name ns))) (numerals-back i b rows q)
+    ap₂ (λ (x : List (List ℕ)) (y : List ℕ). over (numerals x) (λ ns. Some (record_of y ns))) f.1 f.0
+    ∙ ap (λ (o : Option (List ℕ)). over o (λ ns. Some (record_of name ns))) (numerals-back i b rows q)
 
 -- a sort's line
-bits-reads : (n : ℕ) → n < 10000 → sort_in (bytes "sort=bitvec " ++ decimal n) ≡ some (bit_vec n)
+bits-reads : (n : ℕ) → n < 10000 → sort_in (bytes "sort=bitvec " ++ decimal n) ≡ Some (bit_vec n)
 unfolding form numbered_form same_text begins
 bits-reads n h = rw (numeral-back n h)
 
-option_reads : (n : ℕ) → n < 10000 → sort_in (bytes "sort=option " ++ decimal n) ≡ some (option_of n)
+option_reads : (n : ℕ) → n < 10000 → sort_in (bytes "sort=option " ++ decimal n) ≡ Some (option_of n)
 unfolding form numbered_form same_text begins
 option_reads n h = rw (numeral-back n h)
 
-set_reads : (n : ℕ) → n < 10000 → sort_in (bytes "sort=set " ++ decimal n) ≡ some (set_of n)
+set_reads : (n : ℕ) → n < 10000 → sort_in (bytes "sort=set " ++ decimal n) ≡ Some (set_of n)
 unfolding form numbered_form same_text begins
 set_reads n h = rw (numeral-back n h)
 
-entity-reads : (name : List ℕ) → sort_in (bytes "sort=entity " ++ name) ≡ some (entity_of name)
+entity-reads : (name : List ℕ) → sort_in (bytes "sort=entity " ++ name) ≡ Some (entity_of name)
 unfolding form numbered_form named_form same_text begins
 entity-reads name = refl
 
@@ -219,12 +219,12 @@ unfolding form numbered_form named_form same_text begins
 record_reads body = refl
 
 module _ (i : ℕ) (most : i ≤ row_limit) where
-  numbered-back : (key : List ℕ) (n : ℕ) (x : Sort) (r : List ℕ) → clear line_feed key ≡ true → sort_in (key ++ decimal n) ≡ some x → line_row sort_in ((key ++ (decimal n ++ (line_feed ∷ []))) ++ r) ≡ some x
+  numbered-back : (key : List ℕ) (n : ℕ) (x : Sort) (r : List ℕ) → clear line_feed key ≡ true → sort_in (key ++ decimal n) ≡ Some x → line_row sort_in ((key ++ (decimal n ++ (line_feed ∷ []))) ++ r) ≡ Some x
   numbered-back key n x r k q =
       ap (line_row sort_in) (append_assoc key (decimal n ++ (line_feed ∷ [])) r ∙ ap (λ (w : List ℕ). key ++ w) (append_snoc (decimal n) line_feed r) ∙ sym (append_assoc key (decimal n) (line_feed ∷ r)))
       ∙ line-back sort_in (key ++ decimal n) r x (clear-append line_feed key (decimal n) k (decimal-clear line_feed (omega arith) n)) q
 
-  sort-back : (x : Sort) → sort_right i x ≡ true → (r : List ℕ) → line_row sort_in (sort_line x ++ r) ≡ some x
+  sort-back : (x : Sort) → sort_right i x ≡ true → (r : List ℕ) → line_row sort_in (sort_line x ++ r) ≡ Some x
   unfolding form same_text all joined
   sort-back bool h r = line-back sort_in (bytes "sort=bool") r bool refl refl
   sort-back string h r = line-back sort_in (bytes "sort=string") r string refl refl
@@ -253,32 +253,32 @@ sorts-back i (s ∷ ss) b h =
     cons (sort-back i (omega arith) s (both_left (sort_right i s) (sorts_right (suc i) ss) h)) (sorts-back (suc i) ss (omega arith) (both_right (sort_right i s) (sorts_right (suc i) ss) h))
 
 -- the kinds after a kind start otherwise
-members-apart : {A : Type 0} (row : List ℕ → Option A) → ((w : List ℕ) → row (101 ∷ w) ≡ none) → (ms : List Member) → line_row row (lines member_line ms) ≡ none
+members-apart : {A : Type 0} (row : List ℕ → Option A) → ((w : List ℕ) → row (101 ∷ w) ≡ None) → (ms : List Member) → line_row row (lines member_line ms) ≡ None
 unfolding lines
 members-apart row f [] = line-empty row
 members-apart row f (m ∷ ms) = line_other row 101 _ f refl
 
-functions-apart : {A : Type 0} (row : List ℕ → Option A) → ((w : List ℕ) → row (101 ∷ w) ≡ none) → ((w : List ℕ) → row (102 ∷ w) ≡ none)
-    → (fs : List Function) (ms : List Member) → line_row row (lines function_line fs ++ lines member_line ms) ≡ none
+functions-apart : {A : Type 0} (row : List ℕ → Option A) → ((w : List ℕ) → row (101 ∷ w) ≡ None) → ((w : List ℕ) → row (102 ∷ w) ≡ None)
+    → (fs : List Function) (ms : List Member) → line_row row (lines function_line fs ++ lines member_line ms) ≡ None
 unfolding lines
 functions-apart row f g [] ms = members-apart row f ms
 functions-apart row f g (x ∷ fs) ms = line_other row 102 _ g refl
 
-variables-apart : {A : Type 0} (row : List ℕ → Option A) → ((w : List ℕ) → row (101 ∷ w) ≡ none) → ((w : List ℕ) → row (102 ∷ w) ≡ none) → ((w : List ℕ) → row (118 ∷ w) ≡ none)
-    → (vs : List Variable) (fs : List Function) (ms : List Member) → line_row row (lines variable_line vs ++ (lines function_line fs ++ lines member_line ms)) ≡ none
+variables-apart : {A : Type 0} (row : List ℕ → Option A) → ((w : List ℕ) → row (101 ∷ w) ≡ None) → ((w : List ℕ) → row (102 ∷ w) ≡ None) → ((w : List ℕ) → row (118 ∷ w) ≡ None)
+    → (vs : List Variable) (fs : List Function) (ms : List Member) → line_row row (lines variable_line vs ++ (lines function_line fs ++ lines member_line ms)) ≡ None
 unfolding lines
 variables-apart row f g h [] fs ms = functions-apart row f g fs ms
 variables-apart row f g h (v ∷ vs) fs ms = line_other row 118 _ h refl
 
-sort-first : (b : ℕ) (w : List ℕ) → eqb b 115 ≡ false → sort_in (b ∷ w) ≡ none
+sort-first : (b : ℕ) (w : List ℕ) → eqb b 115 ≡ false → sort_in (b ∷ w) ≡ None
 unfolding form numbered_form named_form same_text begins
 sort-first b w h = rw h
 
-variable-first : (b : ℕ) (w : List ℕ) → eqb b 118 ≡ false → variable_in (b ∷ w) ≡ none
+variable-first : (b : ℕ) (w : List ℕ) → eqb b 118 ≡ false → variable_in (b ∷ w) ≡ None
 unfolding variable_in begins
 variable-first b w h = rw h
 
-function-first : (b : ℕ) (w : List ℕ) → eqb b 102 ≡ false → function_in (b ∷ w) ≡ none
+function-first : (b : ℕ) (w : List ℕ) → eqb b 102 ≡ false → function_in (b ∷ w) ≡ None
 unfolding function_in begins
 function-first b w h = rw h
 
@@ -353,6 +353,6 @@ module _ (t : Tables) (right : lawful t ≡ true) (spoken : writable t ≡ true)
       ∙ ap (walk member_in row_limit) (sym (append-nil (lines member_line t.members)))
       ∙ walk-back member_in member_line spelled.member-sound t.members (members-back t parts.few t.members p.1 spoken) row_limit p.0 [] (line-empty member_in)
 
-  pub read_back : parse (written t) ≡ some t
+  pub read_back : parse (written t) ≡ Some t
   unfolding parse
   read_back = rw (members-read, functions-read, variables-read, sorts-read)

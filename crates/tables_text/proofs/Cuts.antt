@@ -1,9 +1,9 @@
 -- What bytes start with, and where a separator cuts them.
 -- Assumes nothing.
+use Rattle.std.proofs.Common.{None, Option, Some}
 use mathlib.Core.Path.{◌≡◌, refl, sym, ap, ap₂, ◌∙◌, subst}
 use mathlib.Core.Bool.{Bool, true, false, ◌&&◌, true≢false}
 use mathlib.Core.List.{List, [], ◌∷◌, ◌++◌}
-use mathlib.Core.Option.{Option, none, some}
 use Prim.Native.Nat.{ℕ, suc, ◌+◌, ◌-◌, ◌≤◌, ◌<◌}
 use native.Mathlib.Nat.{zero-add}
 use native.Mathlib.Omega.{arith}
@@ -76,11 +76,11 @@ module _ (byte : ℕ) where
       (λ e. absurd (true≢false (sym h ∙ ap (λ (t : Bool). t && clear byte bs) e)))
 
   module _ (s : List ℕ) where
-    pub cut_found : span_to byte s < length s → cut_at byte s ≡ some (record { word = take (span_to byte s) s; rest = drop (suc (span_to byte s)) s })
+    pub cut_found : span_to byte s < length s → cut_at byte s ≡ Some (record { word = take (span_to byte s) s; rest = drop (suc (span_to byte s)) s })
     unfolding cut_at
     cut_found h = rw (lt-ltb (span_to byte s) (length s) h)
 
-    pub cut_none : length s ≤ span_to byte s → cut_at byte s ≡ none
+    pub cut_none : length s ≤ span_to byte s → cut_at byte s ≡ None
     unfolding cut_at
     cut_none h = rw (le-ltb (span_to byte s) (length s) h)
 
@@ -91,21 +91,21 @@ module _ (byte : ℕ) where
         sym (take-append-drop (span_to byte s) s)
         ∙ ap (λ (l : List ℕ). take (span_to byte s) s ++ l) (drop-cons s (span_to byte s) 0 h ∙ ap (λ (b : ℕ). b ∷ drop (suc (span_to byte s)) s) e)
 
-    pub cut_split : (c : Cut) → cut_at byte s ≡ some c → s ≡ c.word ++ byte ∷ c.rest
+    pub cut_split : (c : Cut) → cut_at byte s ≡ Some c → s ≡ c.word ++ byte ∷ c.rest
     cut_split c h =
         by_order (span_to byte s) (length s)
         (λ l. subst (λ (d : Cut). s ≡ d.word ++ byte ∷ d.rest) (some_same (sym (cut_found l) ∙ h)) (cut_joins l))
-        (λ l. let z : none ≡ some c = sym (cut_none l) ∙ h in let y : ◌≡◌ {A = ℕ} 0 1 = cc in absurd (omega arith))
+        (λ l. let z : None ≡ Some c = sym (cut_none l) ∙ h in let y : ◌≡◌ {A = ℕ} 0 1 = cc in absurd (omega arith))
       where
-        some_same : {c d : Cut} → ◌≡◌ {A = Option Cut} (some c) (some d) → c ≡ d
+        some_same : {c d : Cut} → ◌≡◌ {A = Option Cut} (Some c) (Some d) → c ≡ d
         some_same q = cc
 
-  pub cut_clear : (w s : List ℕ) → clear byte w ≡ true → cut_at byte (w ++ byte ∷ s) ≡ some (record { word = w; rest = s })
+  pub cut_clear : (w s : List ℕ) → clear byte w ≡ true → cut_at byte (w ++ byte ∷ s) ≡ Some (record { word = w; rest = s })
   cut_clear w s h =
       let n = span_clear w s h in
       let l = length-append w (byte ∷ s) in
       cut_found (w ++ byte ∷ s) (omega arith)
-      ∙ ap₂ (λ (x y : List ℕ). some (record { word = x; rest = y }))
+      ∙ ap₂ (λ (x y : List ℕ). Some (record { word = x; rest = y }))
       (ap (λ (k : ℕ). take k (w ++ byte ∷ s)) n ∙ take_at w (byte ∷ s) (length w) refl)
       (ap (λ (k : ℕ). drop (suc k) (w ++ byte ∷ s)) n ∙ drop_past w s)
     where
@@ -121,15 +121,15 @@ module _ (byte : ℕ) (s : List ℕ) (start end : ℕ) (le : start ≤ length s)
   pub word-long : length (take (end - start) (drop start s)) ≡ end - start
   word-long = length-take-le (end - start) (drop start s) (omega (arith, end_le, length-drop start s, e))
 
-  pub place_none : length s ≤ end → cut_at byte (drop start s) ≡ none
+  pub place_none : length s ≤ end → cut_at byte (drop start s) ≡ None
   place_none h = cut_none byte (drop start s) (omega (arith, e, length-drop start s))
 
-  pub place-some : end < length s → cut_at byte (drop start s) ≡ some (record { word = take (end - start) (drop start s); rest = drop (end + 1) s })
+  pub place-some : end < length s → cut_at byte (drop start s) ≡ Some (record { word = take (end - start) (drop start s); rest = drop (end + 1) s })
   place-some h =
       let n : span_to byte (drop start s) ≡ end - start = omega (arith, e) in
       let m : start + suc (span_to byte (drop start s)) ≡ end + 1 = omega (arith, e) in
       cut_found byte (drop start s) (omega (arith, e, length-drop start s))
-      ∙ ap₂ (λ (x y : List ℕ). some (record { word = x; rest = y }))
+      ∙ ap₂ (λ (x y : List ℕ). Some (record { word = x; rest = y }))
       (ap (λ (k : ℕ). take k (drop start s)) n)
       (drop-drop (suc (span_to byte (drop start s))) start s ∙ ap (λ (k : ℕ). drop k s) m)
 

@@ -1,17 +1,15 @@
 -- A sort's line as the code tells it: its kind and number, or that a name follows.
 -- Assumes nothing.
+use Rattle.std.proofs.Common.{None, Option, Some}
 use mathlib.Core.Path.{◌≡◌, refl, sym, ap, ◌∙◌}
 use mathlib.Core.Bool.{Bool, true, false}
 use mathlib.Core.List.{List}
-use mathlib.Core.Option.{Option, none, some}
 use Prim.Native.Nat.{ℕ, ◌-◌}
 use lib.ListN.{length, take, drop}
 use Rattle.ground.specs.Bytes.{bytes}
 use Rattle.ground.specs.Options.{over}
 use Rattle.arena.specs.Text.{same_text}
 use Rattle.tables.specs.Sort.{bit_vec, option_of, set_of}
-use Rattle.tables_text.specs.declared.number.Number.{Number}
-use Rattle.tables_text.specs.declared.number.Number.TheVariants.{Is, Other}
 use Rattle.tables_text.specs.declared.sort.SortLine.{SortLine}
 use Rattle.tables_text.specs.declared.sort.SortLine.TheVariants as sort
 use Rattle.tables_text.specs.Parse.{begins, numeral, named_form, numbered_form, form}
@@ -26,27 +24,27 @@ yes e h = sym e ∙ h
 pub no : {a b : Bool} → a ≡ b → a ≡ false → b ≡ false
 no e h = sym e ∙ h
 
-module _ (kind : ℕ) (s : List ℕ) (start : ℕ) (r : Number) (g : r ≡ number_told (numeral (take (length s - start) (drop start s)))) where
+module _ (kind : ℕ) (s : List ℕ) (start : ℕ) (r : Option ℕ) (g : r ≡ number_told (numeral (take (length s - start) (drop start s)))) where
   value : r ≡ number_told (numeral (drop start s))
   value = g ∙ ap (λ (l : List ℕ). number_told (numeral l)) (to_end s start)
 
-  pub numbered_is : (n : ℕ) → r ≡ Is n → sort.Plain kind n ≡ numbered_told kind (drop start s)
+  pub numbered_is : (n : ℕ) → r ≡ Some n → sort.Plain kind n ≡ numbered_told kind (drop start s)
   numbered_is n o = ap (plain_told kind) (sym (told_is (numeral (drop start s)) n (sym o ∙ value)))
 
-  pub numbered-other : r ≡ Other → sort.Other ≡ numbered_told kind (drop start s)
+  pub numbered-other : r ≡ None → sort.Other ≡ numbered_told kind (drop start s)
   numbered-other o = ap (plain_told kind) (sym (told-other (numeral (drop start s)) (sym o ∙ value)))
 
-as_bits : (o : Option ℕ) → plain_told 6 o ≡ form_told (over o (λ n. some (bit_vec n)))
-as_bits none = refl
-as_bits (some n) = refl
+as_bits : (o : Option ℕ) → plain_told 6 o ≡ form_told (over o (λ n. Some (bit_vec n)))
+as_bits None = refl
+as_bits (Some n) = refl
 
-as_option : (o : Option ℕ) → plain_told 7 o ≡ form_told (over o (λ n. some (option_of n)))
-as_option none = refl
-as_option (some n) = refl
+as_option : (o : Option ℕ) → plain_told 7 o ≡ form_told (over o (λ n. Some (option_of n)))
+as_option None = refl
+as_option (Some n) = refl
 
-as_set : (o : Option ℕ) → plain_told 8 o ≡ form_told (over o (λ n. some (set_of n)))
-as_set none = refl
-as_set (some n) = refl
+as_set : (o : Option ℕ) → plain_told 8 o ≡ form_told (over o (λ n. Some (set_of n)))
+as_set None = refl
+as_set (Some n) = refl
 
 module _ (s : List ℕ) where
   pub form-entity : begins (bytes "sort=entity ") s ≡ true → sort.Entity ≡ form_told (named_form s)

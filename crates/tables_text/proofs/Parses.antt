@@ -1,8 +1,9 @@
 -- All lines walked: what is left after each kind, and the words of the tables that they spell.
 -- Assumes nothing.
+use Rattle.std.proofs.lemmas.Option.{same_Some}
+use Rattle.std.proofs.Common.{None, Option, Some}
 use mathlib.Core.Path.{◌≡◌, refl, sym, ap, ◌∙◌, subst}
 use mathlib.Core.List.{List, [], ◌∷◌, ◌++◌, append_assoc}
-use mathlib.Core.Option.{Option, none, some}
 use Prim.Native.Nat.{ℕ, zero, suc, ◌+◌, ◌*◌, ◌≤◌, ◌<◌}
 use native.Mathlib.Omega.{arith}
 use lib.ListN.{length, take, drop, length-append, length-drop}
@@ -12,28 +13,28 @@ use Rattle.tables.specs.Layout.{stride}
 use Rattle.tables.specs.Rules.{row_limit}
 use Rattle.tables_text.specs.declared.walk.Walk.{Walk}
 use Rattle.tables_text.specs.declared.sorts.SortWalk.{SortWalk}
-use Rattle.tables_text.specs.declared.parse.Parsed.TheVariants.{Rows, Other}
 use Rattle.tables_text.specs.Line.{lines, sort_line, variable_line, function_line, member_line}
 use Rattle.tables_text.specs.Words.{sort_words, fields_of, all_sort_words, variable_words, function_words, member_words, table_words, laid}
 use Rattle.tables_text.specs.Parse.{span_to, line_feed, sort_in, variable_in, function_in, member_in, Walked, went, line_row, walk, sort_rows, variable_rows, function_rows, member_rows, parse}
 use Rattle.tables_text.specs.Parse as Parse
 use Rattle.tables_text.specs.Told.{WalkedTo, SortsWalked}
 use Rattle.tables_text.specs.Parsing.{Held, parsed_told, Parses}
-use Rattle.tables_text.proofs.Spelled.{some-equal, line-sound, sort-sound, variable-sound, function-sound, member-sound}
+use Rattle.tables_text.proofs.Spelled.{line-sound, sort-sound, variable-sound, function-sound, member-sound}
 use Rattle.tables_text.proofs.Spelled as spelled
 use Rattle.tables_text.proofs.SortWalks.{five}
 use Rattle.tables_text.proofs.Walks.{walk-stop, walk_none, walk-goes}
+use Rattle.tables_text.specs.declared.parse.Counts.{Counts}
 
 -- the lines of the rows, and then what is left
-module _ {A : Type 0} (row : List ℕ → Option A) (write : A → List ℕ) (sound : (s : List ℕ) (x : A) → row s ≡ some x → write x ≡ spelled.ended s) where
+module _ {A : Type 0} (row : List ℕ → Option A) (write : A → List ℕ) (sound : (s : List ℕ) (x : A) → row s ≡ Some x → write x ≡ spelled.ended s) where
   pub walk-sound : (most : ℕ) (s : List ℕ) → s ≡ lines write (walk row most s).rows ++ (walk row most s).rest
   unfolding lines
   walk-sound zero s = ap (λ (w : Walked A). lines write w.rows ++ w.rest) (sym (walk_none row s))
   walk-sound (suc most) s = by_row (λ l. walk-sound most l) (line_row row s) refl
     where
       by_row : ((l : List ℕ) → l ≡ lines write (walk row most l).rows ++ (walk row most l).rest) → (o : Option A) → line_row row s ≡ o → s ≡ lines write (walk row (suc most) s).rows ++ (walk row (suc most) s).rest
-      by_row again none e = ap (λ (w : Walked A). lines write w.rows ++ w.rest) (sym (walk-stop row (suc most) s e))
-      by_row again (some x) e =
+      by_row again None e = ap (λ (w : Walked A). lines write w.rows ++ w.rest) (sym (walk-stop row (suc most) s e))
+      by_row again (Some x) e =
           let d : drop (length (write x)) s ≡ drop (suc (span_to line_feed s)) s =
           ap (drop (length (write x))) (line-sound row write sound s x e) ∙ drop_at (write x) (drop (suc (span_to line_feed s)) s) (length (write x)) refl in
           line-sound row write sound s x e
@@ -55,8 +56,8 @@ walk-few row zero s = omega arith
 walk-few {A} row (suc most) s = by_row (line_row row s) (walk row most (drop (suc (span_to line_feed s)) s)) (walk-few row most (drop (suc (span_to line_feed s)) s))
   where
     by_row : (o : Option A) (w : Walked A) → length w.rows ≤ most → length (went s o w).rows ≤ suc most
-    by_row none w h = omega arith
-    by_row (some x) w h = omega arith
+    by_row None w h = omega arith
+    by_row (Some x) w h = omega arith
 
 pub rows_few : {A : Type 0} (row : List ℕ → Option A) (write : A → List ℕ) (words : ℕ → A → List ℕ) (start : ℕ) (s exit : List ℕ) (r : Walk)
     → WalkedTo write words start (walk row row_limit s) exit r → r.rows ≤ row_limit
@@ -84,7 +85,7 @@ sorts-long at before (x ∷ xs) =
     )
 
 -- a kind walked from a place on, and what its room then holds
-module _ {A : Type 0} (row : List ℕ → Option A) (write : A → List ℕ) (words : ℕ → A → List ℕ) (sound : (s : List ℕ) (x : A) → row s ≡ some x → write x ≡ spelled.ended s)
+module _ {A : Type 0} (row : List ℕ → Option A) (write : A → List ℕ) (words : ℕ → A → List ℕ) (sound : (s : List ℕ) (x : A) → row s ≡ Some x → write x ≡ spelled.ended s)
     (text : List ℕ) (start : ℕ) (le : start ≤ length text) (exit : List ℕ) (r : Walk) (w : WalkedTo write words start (walk row row_limit (drop start text)) exit r) where
   pub next-within : r.at ≤ length text
   next-within = omega (arith, w.ends, walk-long row write sound row_limit (drop start text), length-drop start text, le)
@@ -133,27 +134,27 @@ module _ (text a b : List ℕ) (first : SortWalk) (s₁ : SortsWalked (sort_rows
         left_4 : drop last.at text ≡ (member_rows text).rest
         left_4 = next-left member_in member_line member_words member-sound text third.at within_3 e last s₄ ∙ ap (λ (l : List ℕ). (walk member_in row_limit l).rest) left_3
 
-        unended : {A : Type 0} (s : List ℕ) (x : A) → 0 < length s → Parse.ended s x ≡ none
+        unended : {A : Type 0} (s : List ℕ) (x : A) → 0 < length s → Parse.ended s x ≡ None
         unended [] x h = absurd (omega arith)
         unended (y ∷ ys) x h = refl
 
-        ended_so : {A : Type 0} (s : List ℕ) (x : A) → length s ≡ 0 → Parse.ended s x ≡ some x
+        ended_so : {A : Type 0} (s : List ℕ) (x : A) → length s ≡ 0 → Parse.ended s x ≡ Some x
         ended_so [] x h = refl
         ended_so (y ∷ ys) x h = absurd (omega arith)
 
-        pub parses_other : last.at < length text → Parses text a b c d e Other
+        pub parses_other : last.at < length text → Parses text a b c d e None
         unfolding parse
         parses_other h =
-            let n : parse text ≡ none = unended (member_rows text).rest _ (omega (arith, ap length left_4, length-drop last.at text)) in
-            record { answers = ap (parsed_told text) (sym n); holds = λ t q. let y : none ≡ some t = sym n ∙ q in let z : ◌≡◌ {A = ℕ} 0 1 = cc in absurd (omega arith) }
+            let n : parse text ≡ None = unended (member_rows text).rest _ (omega (arith, ap length left_4, length-drop last.at text)) in
+            record { answers = ap (parsed_told text) (sym n); holds = λ t q. let y : None ≡ Some t = sym n ∙ q in let z : ◌≡◌ {A = ℕ} 0 1 = cc in absurd (omega arith) }
 
         abbrev spelt : Tables
         spelt = record { sorts = (sort_rows text).rows; variables = (variable_rows text).rows; functions = (function_rows text).rows; members = (member_rows text).rows }
 
-        pub parses_rows : length text ≤ last.at → Parses text a b c d e (Rows (first.rows * stride) first.fields (second.rows * stride) (third.rows * stride) (last.rows * stride))
+        pub parses_rows : length text ≤ last.at → Parses text a b c d e (Some (record { sorts = first.rows * stride; fields = first.fields; variables = second.rows * stride; functions = third.rows * stride; members = last.rows * stride }))
         unfolding parse laid
         parses_rows h =
-            let y : parse text ≡ some spelt = ended_so (member_rows text).rest _ (omega (arith, ap length left_4, length-drop last.at text)) in
+            let y : parse text ≡ Some spelt = ended_so (member_rows text).rest _ (omega (arith, ap length left_4, length-drop last.at text)) in
             let v = as_pure variable_in variable_line variable_words _ _ _ _ c second s₁.ends left_1 s₂ in
             let f = as_pure function_in function_line function_words _ _ _ _ d third v.ends left_2 s₃ in
             let m = as_pure member_in member_line member_words _ _ _ _ e last f.ends left_3 s₄ in
@@ -170,8 +171,8 @@ module _ (text a b : List ℕ) (first : SortWalk) (s₁ : SortsWalked (sort_rows
                   five-equal k s₁.sums (table-size variable_line variable_words (λ at x. refl) _ _ c second v) (table-size function_line function_words (λ at x. refl) _ _ d third f)
                   (table-size member_line member_words (λ at x. refl) _ _ e last m)
                   ∙ ap (parsed_told text) (sym y);
-              holds = λ t q. subst (λ (z : Tables). Held (laid z text) a b c d e) (some-equal (sym y ∙ q)) held;
+              holds = λ t q. subst (λ (z : Tables). Held (laid z text) a b c d e) (same_Some _ _ (sym y ∙ q)) held;
             }
           where
-            five-equal : {a b c d e i j k l m : ℕ} → a ≡ i → b ≡ j → c ≡ k → d ≡ l → e ≡ m → Rows a b c d e ≡ Rows i j k l m
+            five-equal : {a b c d e i j k l m : ℕ} → a ≡ i → b ≡ j → c ≡ k → d ≡ l → e ≡ m → ◌≡◌ {A = Option Counts} (Some (record { sorts = a; fields = b; variables = c; functions = d; members = e })) (Some (record { sorts = i; fields = j; variables = k; functions = l; members = m }))
             five-equal p q r s t = cc

@@ -1,8 +1,9 @@
 -- Sorts written one after the other, and the fields of records behind each other.
 -- Assumes nothing.
+use Rattle.std.proofs.lemmas.Option.{same_Some}
+use Rattle.std.proofs.Common.{None, Option, Some}
 use mathlib.Core.Path.{◌≡◌, refl, sym, ap, ap₂, ◌∙◌, subst}
 use mathlib.Core.List.{List, [], ◌∷◌, ◌++◌, map, append_assoc, append-nil}
-use mathlib.Core.Option.{Option, none, some}
 use Prim.Native.Nat.{ℕ, suc, ◌+◌, ◌-◌, ◌*◌, ◌≤◌, ◌<◌}
 use native.Mathlib.Omega.{arith}
 use lib.ListN.{length, take, drop, length-append, length-drop, length-take}
@@ -13,23 +14,21 @@ use Rattle.ground.proofs.Lists.{take-sets}
 use Rattle.decimals.specs.Decimal.{decimal}
 use Rattle.decimals.proofs.Counts.{count-least}
 use Rattle.decimals.proofs.Texts.{length-decimal}
-use Rattle.tables.specs.Sort as Sort
 use Rattle.tables.specs.Sort.{Sort, bool, string, ext, bit_vec, option_of, set_of, entity_of, record_of}
 use Rattle.tables.specs.Layout.{stride}
 use Rattle.tables.specs.Rules.{row_limit, ext_kind}
 use Rattle.tables_text.specs.declared.sort.SortLine.{SortLine}
 use Rattle.tables_text.specs.declared.sort.SortLine.TheVariants as sort
-use Rattle.tables_text.specs.declared.sort.RecordLine.{RecordLine}
-use Rattle.tables_text.specs.declared.sort.RecordLine.TheVariants as row
-use Rattle.tables_text.specs.declared.sorts.SortNext.{SortNext}
-use Rattle.tables_text.specs.declared.sorts.SortNext.TheVariants.{Next, Stop}
 use Rattle.tables_text.specs.Line.{lines, sort_line}
 use Rattle.tables_text.specs.Words.{row_words, sort_words, fields_of, all_fields, all_sort_words}
 use Rattle.tables_text.specs.Parse.{span_to, line_feed, record_in, form, filled, sort_in, Walked, stopped, line_row, walk}
 use Rattle.tables_text.specs.Told.{form_told, record_told, FieldsPut, sort_told, sort_held, FineSort, FineRecord, SortLined, SortsWalked}
 use Rattle.tables_text.proofs.Cuts.{word-long}
-use Rattle.tables_text.proofs.Spelled.{some-equal, record_sound, record_form, sort-sound}
+use Rattle.tables_text.proofs.Spelled.{record_sound, record_form, sort-sound}
 use Rattle.tables_text.proofs.Walks.{line-past, line-here, line-ends, walk-stop, walk_none, walk-goes, line-within}
+use Rattle.tables_text.specs.declared.sort.RecordLine.{RecordLine}
+use Rattle.tables_text.specs.declared.sorts.SortNext.{SortNext}
+use Rattle.ground.proofs.Options.{some-same}
 
 -- a row has five words, and a field takes at least two bytes
 pub five : (at before : ℕ) (x : Sort) → length (sort_words at before x) ≡ stride
@@ -77,61 +76,61 @@ module _ (text : List ℕ) (at end : ℕ) (table : List ℕ) (number : ℕ) (fie
   pub record_fits : (12 ≤ length line) × (before * 2 + length line ≤ length fields * 2)
   record_fits = (omega (arith, line-long, fine.starts), omega (arith, line-long, fine.starts, fine.ends, fine.fine.few, fine.fine.ample))
 
-  module _ (after : List ℕ) (r : RecordLine) (f : FieldsPut before (drop 12 line) fields after r) where
-    pub record_other : r ≡ row.Other → SortLined at number before (record_in (drop 12 line)) table table fields after Stop
+  module _ (after : List ℕ) (r : Option RecordLine) (f : FieldsPut before (drop 12 line) fields after r) where
+    pub record_other : r ≡ None → SortLined at number before (record_in (drop 12 line)) table table fields after None
     record_other q = by_record (record_in (drop 12 line)) refl
       where
-        by_record : (o : Option Sort) → record_in (drop 12 line) ≡ o → SortLined at number before (record_in (drop 12 line)) table table fields after Stop
-        by_record none e = record {
+        by_record : (o : Option Sort) → record_in (drop 12 line) ≡ o → SortLined at number before (record_in (drop 12 line)) table table fields after None
+        by_record None e = record {
           answers = ap (sort_told at before) (sym e);
           holds = ap (sort_held at number before table) (sym e);
           stay = f.stay;
-          fields = λ x p. let y : none ≡ some x = sym e ∙ p in let z : ◌≡◌ {A = ℕ} 0 1 = cc in absurd (omega arith);
+          fields = λ x p. let y : None ≡ Some x = sym e ∙ p in let z : ◌≡◌ {A = ℕ} 0 1 = cc in absurd (omega arith);
         }
-        by_record (some x) e =
+        by_record (Some x) e =
             let s = record_sound (drop 12 line) x e in
-            let y : row.Other ≡ row.Row (length s.name) (length s.rows) = sym q ∙ f.answers ∙ ap record_told e ∙ ap (λ (w : Sort). record_told (some w)) s.is in
+            let y : ◌≡◌ {A = Option RecordLine} None (Some (record { name = length s.name; count = length s.rows })) = sym q ∙ f.answers ∙ ap record_told e ∙ ap (λ (w : Sort). record_told (Some w)) s.is in
             let z : ◌≡◌ {A = ℕ} 0 1 = cc in
             absurd (omega arith)
 
-    pub RecordRow : (name count : ℕ) → r ≡ row.Row name count → (exit : List ℕ) → exit ≡ sets table (number * stride) (row_words (at + 12) name 10 before count)
-        → SortLined at number before (record_in (drop 12 line)) table exit fields after (Next (end + 1) (before + count))
+    pub RecordRow : (name count : ℕ) → r ≡ Some (record { name = name; count = count }) → (exit : List ℕ) → exit ≡ sets table (number * stride) (row_words (at + 12) name 10 before count)
+        → SortLined at number before (record_in (drop 12 line)) table exit fields after (Some (record { at = end + 1; fields = before + count }))
     RecordRow name count q exit held = by_record (record_in (drop 12 line)) refl
       where
-        by_record : (o : Option Sort) → record_in (drop 12 line) ≡ o → SortLined at number before (record_in (drop 12 line)) table exit fields after (Next (end + 1) (before + count))
-        by_record none e =
-            let y : row.Row name count ≡ row.Other = sym q ∙ f.answers ∙ ap record_told e in
+        by_record : (o : Option Sort) → record_in (drop 12 line) ≡ o → SortLined at number before (record_in (drop 12 line)) table exit fields after (Some (record { at = end + 1; fields = before + count }))
+        by_record None e =
+            let y : ◌≡◌ {A = Option RecordLine} (Some (record { name = name; count = count })) None = sym q ∙ f.answers ∙ ap record_told e in
             let z : ◌≡◌ {A = ℕ} 0 1 = cc in
             absurd (omega arith)
-        by_record (some x) e =
+        by_record (Some x) e =
             let s = record_sound (drop 12 line) x e in
-            let g : record_in (drop 12 line) ≡ some (record_of s.name s.rows) = e ∙ ap some s.is in
-            let y : row.Row name count ≡ row.Row (length s.name) (length s.rows) = sym q ∙ f.answers ∙ ap record_told g in
-            let n : name ≡ length s.name = cc in
-            let c : count ≡ length s.rows = cc in
+            let g : record_in (drop 12 line) ≡ Some (record_of s.name s.rows) = e ∙ ap Some s.is in
+            let y : ◌≡◌ {A = Option RecordLine} (Some (record { name = name; count = count })) (Some (record { name = length s.name; count = length s.rows })) = sym q ∙ f.answers ∙ ap record_told g in
+            let n : name ≡ length s.name = ap (λ (l : RecordLine). l.name) (some-same y) in
+            let c : count ≡ length s.rows = ap (λ (l : RecordLine). l.count) (some-same y) in
             let d : end + 1 ≡ at + length (sort_line (record_of s.name s.rows)) =
             omega (arith, record_long s.name s.rows, ap length s.joins, length-drop 12 line, line-long, fine.starts) in
             record {
-              answers = ap₂ (λ (i j : ℕ). Next i (before + j)) d c ∙ ap (sort_told at before) (sym g);
+              answers = ap₂ (λ (i j : ℕ). (Some (record { at = i; fields = before + j }))) d c ∙ ap (sort_told at before) (sym g);
               holds = held ∙ ap₂ (λ (i j : ℕ). sets table (number * stride) (row_words (at + 12) i 10 before j)) n c ∙ ap (sort_held at number before table) (sym g);
               stay = f.stay;
               fields = λ w p.
-                  subst (λ (v : Sort). take (before + length (fields_of v)) after ≡ take before fields ++ fields_of v) (some-equal (sym g ∙ p)) (f.holds s.name s.rows g);
+                  subst (λ (v : Sort). take (before + length (fields_of v)) after ≡ take before fields ++ fields_of v) (same_Some _ _ (sym g ∙ p)) (f.holds s.name s.rows g);
             }
 
-    pub record_count : (name count : ℕ) → r ≡ row.Row name count → before + count ≤ length after
+    pub record_count : (name count : ℕ) → r ≡ Some (record { name = name; count = count }) → before + count ≤ length after
     record_count name count q = by_record (record_in (drop 12 line)) refl
       where
         by_record : (o : Option Sort) → record_in (drop 12 line) ≡ o → before + count ≤ length after
-        by_record none e =
-            let y : row.Row name count ≡ row.Other = sym q ∙ f.answers ∙ ap record_told e in
+        by_record None e =
+            let y : ◌≡◌ {A = Option RecordLine} (Some (record { name = name; count = count })) None = sym q ∙ f.answers ∙ ap record_told e in
             let z : ◌≡◌ {A = ℕ} 0 1 = cc in
             absurd (omega arith)
-        by_record (some x) e =
+        by_record (Some x) e =
             let s = record_sound (drop 12 line) x e in
-            let g : record_in (drop 12 line) ≡ some (record_of s.name s.rows) = e ∙ ap some s.is in
-            let y : row.Row name count ≡ row.Row (length s.name) (length s.rows) = sym q ∙ f.answers ∙ ap record_told g in
-            let c : count ≡ length s.rows = cc in
+            let g : record_in (drop 12 line) ≡ Some (record_of s.name s.rows) = e ∙ ap Some s.is in
+            let y : ◌≡◌ {A = Option RecordLine} (Some (record { name = name; count = count })) (Some (record { name = length s.name; count = length s.rows })) = sym q ∙ f.answers ∙ ap record_told g in
+            let c : count ≡ length s.rows = ap (λ (l : RecordLine). l.count) (some-same y) in
             omega (
               arith,
               c,
@@ -143,38 +142,38 @@ module _ (text : List ℕ) (at end : ℕ) (table : List ℕ) (number : ℕ) (fie
 
 -- what was told of a form
 told-plain : (at before : ℕ) (o : Option Sort) (kind number : ℕ) → sort.Plain kind number ≡ form_told o
-    → (x : Sort) × (filled o ≡ some x) × (row_words 0 0 kind number 0 ≡ sort_words at before x) × (fields_of x ≡ [])
-told-plain at before none kind number h = let z : ◌≡◌ {A = ℕ} 0 1 = cc in absurd (omega arith)
-told-plain at before (some bool) kind number h = let k : kind ≡ 1 = cc in let n : number ≡ 0 = cc in (bool, refl, ap₂ (λ (i j : ℕ). row_words 0 0 i j 0) k n, refl)
-told-plain at before (some string) kind number h = let k : kind ≡ 2 = cc in let n : number ≡ 0 = cc in (string, refl, ap₂ (λ (i j : ℕ). row_words 0 0 i j 0) k n, refl)
-told-plain at before (some (ext e)) kind number h = let k : kind ≡ ext_kind e = cc in let n : number ≡ 0 = cc in (ext e, refl, ap₂ (λ (i j : ℕ). row_words 0 0 i j 0) k n, refl)
-told-plain at before (some (bit_vec w)) kind number h = let k : kind ≡ 6 = cc in let n : number ≡ w = cc in (bit_vec w, refl, ap₂ (λ (i j : ℕ). row_words 0 0 i j 0) k n, refl)
-told-plain at before (some (option_of w)) kind number h = let k : kind ≡ 7 = cc in let n : number ≡ w = cc in (option_of w, refl, ap₂ (λ (i j : ℕ). row_words 0 0 i j 0) k n, refl)
-told-plain at before (some (set_of w)) kind number h = let k : kind ≡ 8 = cc in let n : number ≡ w = cc in (set_of w, refl, ap₂ (λ (i j : ℕ). row_words 0 0 i j 0) k n, refl)
-told-plain at before (some (entity_of name)) kind number h = let z : ◌≡◌ {A = ℕ} 0 1 = cc in absurd (omega arith)
-told-plain at before (some (record_of name rows)) kind number h = let z : ◌≡◌ {A = ℕ} 0 1 = cc in absurd (omega arith)
+    → (x : Sort) × (filled o ≡ Some x) × (row_words 0 0 kind number 0 ≡ sort_words at before x) × (fields_of x ≡ [])
+told-plain at before None kind number h = let z : ◌≡◌ {A = ℕ} 0 1 = cc in absurd (omega arith)
+told-plain at before (Some bool) kind number h = let k : kind ≡ 1 = cc in let n : number ≡ 0 = cc in (bool, refl, ap₂ (λ (i j : ℕ). row_words 0 0 i j 0) k n, refl)
+told-plain at before (Some string) kind number h = let k : kind ≡ 2 = cc in let n : number ≡ 0 = cc in (string, refl, ap₂ (λ (i j : ℕ). row_words 0 0 i j 0) k n, refl)
+told-plain at before (Some (ext e)) kind number h = let k : kind ≡ ext_kind e = cc in let n : number ≡ 0 = cc in (ext e, refl, ap₂ (λ (i j : ℕ). row_words 0 0 i j 0) k n, refl)
+told-plain at before (Some (bit_vec w)) kind number h = let k : kind ≡ 6 = cc in let n : number ≡ w = cc in (bit_vec w, refl, ap₂ (λ (i j : ℕ). row_words 0 0 i j 0) k n, refl)
+told-plain at before (Some (option_of w)) kind number h = let k : kind ≡ 7 = cc in let n : number ≡ w = cc in (option_of w, refl, ap₂ (λ (i j : ℕ). row_words 0 0 i j 0) k n, refl)
+told-plain at before (Some (set_of w)) kind number h = let k : kind ≡ 8 = cc in let n : number ≡ w = cc in (set_of w, refl, ap₂ (λ (i j : ℕ). row_words 0 0 i j 0) k n, refl)
+told-plain at before (Some (entity_of name)) kind number h = let z : ◌≡◌ {A = ℕ} 0 1 = cc in absurd (omega arith)
+told-plain at before (Some (record_of name rows)) kind number h = let z : ◌≡◌ {A = ℕ} 0 1 = cc in absurd (omega arith)
 
-told-entity : (o : Option Sort) → sort.Entity ≡ form_told o → (name : List ℕ) × (filled o ≡ some (entity_of name))
-told-entity none h = let z : ◌≡◌ {A = ℕ} 0 1 = cc in absurd (omega arith)
-told-entity (some bool) h = let z : ◌≡◌ {A = ℕ} 0 1 = cc in absurd (omega arith)
-told-entity (some string) h = let z : ◌≡◌ {A = ℕ} 0 1 = cc in absurd (omega arith)
-told-entity (some (ext e)) h = let z : ◌≡◌ {A = ℕ} 0 1 = cc in absurd (omega arith)
-told-entity (some (bit_vec w)) h = let z : ◌≡◌ {A = ℕ} 0 1 = cc in absurd (omega arith)
-told-entity (some (option_of w)) h = let z : ◌≡◌ {A = ℕ} 0 1 = cc in absurd (omega arith)
-told-entity (some (set_of w)) h = let z : ◌≡◌ {A = ℕ} 0 1 = cc in absurd (omega arith)
-told-entity (some (entity_of name)) h = (name, refl)
-told-entity (some (record_of name rows)) h = let z : ◌≡◌ {A = ℕ} 0 1 = cc in absurd (omega arith)
+told-entity : (o : Option Sort) → sort.Entity ≡ form_told o → (name : List ℕ) × (filled o ≡ Some (entity_of name))
+told-entity None h = let z : ◌≡◌ {A = ℕ} 0 1 = cc in absurd (omega arith)
+told-entity (Some bool) h = let z : ◌≡◌ {A = ℕ} 0 1 = cc in absurd (omega arith)
+told-entity (Some string) h = let z : ◌≡◌ {A = ℕ} 0 1 = cc in absurd (omega arith)
+told-entity (Some (ext e)) h = let z : ◌≡◌ {A = ℕ} 0 1 = cc in absurd (omega arith)
+told-entity (Some (bit_vec w)) h = let z : ◌≡◌ {A = ℕ} 0 1 = cc in absurd (omega arith)
+told-entity (Some (option_of w)) h = let z : ◌≡◌ {A = ℕ} 0 1 = cc in absurd (omega arith)
+told-entity (Some (set_of w)) h = let z : ◌≡◌ {A = ℕ} 0 1 = cc in absurd (omega arith)
+told-entity (Some (entity_of name)) h = (name, refl)
+told-entity (Some (record_of name rows)) h = let z : ◌≡◌ {A = ℕ} 0 1 = cc in absurd (omega arith)
 
-told_none : (o : Option Sort) → sort.Other ≡ form_told o → filled o ≡ none
-told_none none h = refl
-told_none (some bool) h = let z : ◌≡◌ {A = ℕ} 0 1 = cc in absurd (omega arith)
-told_none (some string) h = let z : ◌≡◌ {A = ℕ} 0 1 = cc in absurd (omega arith)
-told_none (some (ext e)) h = let z : ◌≡◌ {A = ℕ} 0 1 = cc in absurd (omega arith)
-told_none (some (bit_vec w)) h = let z : ◌≡◌ {A = ℕ} 0 1 = cc in absurd (omega arith)
-told_none (some (option_of w)) h = let z : ◌≡◌ {A = ℕ} 0 1 = cc in absurd (omega arith)
-told_none (some (set_of w)) h = let z : ◌≡◌ {A = ℕ} 0 1 = cc in absurd (omega arith)
-told_none (some (entity_of name)) h = let z : ◌≡◌ {A = ℕ} 0 1 = cc in absurd (omega arith)
-told_none (some (record_of name rows)) h = let z : ◌≡◌ {A = ℕ} 0 1 = cc in absurd (omega arith)
+told_none : (o : Option Sort) → sort.Other ≡ form_told o → filled o ≡ None
+told_none None h = refl
+told_none (Some bool) h = let z : ◌≡◌ {A = ℕ} 0 1 = cc in absurd (omega arith)
+told_none (Some string) h = let z : ◌≡◌ {A = ℕ} 0 1 = cc in absurd (omega arith)
+told_none (Some (ext e)) h = let z : ◌≡◌ {A = ℕ} 0 1 = cc in absurd (omega arith)
+told_none (Some (bit_vec w)) h = let z : ◌≡◌ {A = ℕ} 0 1 = cc in absurd (omega arith)
+told_none (Some (option_of w)) h = let z : ◌≡◌ {A = ℕ} 0 1 = cc in absurd (omega arith)
+told_none (Some (set_of w)) h = let z : ◌≡◌ {A = ℕ} 0 1 = cc in absurd (omega arith)
+told_none (Some (entity_of name)) h = let z : ◌≡◌ {A = ℕ} 0 1 = cc in absurd (omega arith)
+told_none (Some (record_of name rows)) h = let z : ◌≡◌ {A = ℕ} 0 1 = cc in absurd (omega arith)
 
 entity-long : (name : List ℕ) → length (sort_line (entity_of name)) ≡ 13 + length name
 unfolding joined
@@ -183,15 +182,15 @@ entity-long name = omega (arith, length-append name (bytes "\n"))
 -- a sort's line
 module _ (text : List ℕ) (at end : ℕ) (table : List ℕ) (number : ℕ) (fields : List ℕ) (before : ℕ) (fine : FineSort text at table number fields before)
     (e : end ≡ at + span_to line_feed (drop at text)) where
-  sorted_none : line_row sort_in (drop at text) ≡ none → SortLined at number before (line_row sort_in (drop at text)) table table fields fields Stop
+  sorted_none : line_row sort_in (drop at text) ≡ None → SortLined at number before (line_row sort_in (drop at text)) table table fields fields None
   sorted_none q = record {
     answers = ap (sort_told at before) (sym q);
     holds = ap (sort_held at number before table) (sym q);
     stay = refl;
-    fields = λ x p. let y : none ≡ some x = sym q ∙ p in let z : ◌≡◌ {A = ℕ} 0 1 = cc in absurd (omega arith);
+    fields = λ x p. let y : None ≡ Some x = sym q ∙ p in let z : ◌≡◌ {A = ℕ} 0 1 = cc in absurd (omega arith);
   }
 
-  pub sorted-past : length text ≤ end → SortLined at number before (line_row sort_in (drop at text)) table table fields fields Stop
+  pub sorted-past : length text ≤ end → SortLined at number before (line_row sort_in (drop at text)) table table fields fields None
   sorted-past h = sorted_none (line-past sort_in sort_line (λ i. sort_words i before) sort-sound text at end fine.within e number table h)
 
   module _ (h : end < length text) (r : SortLine) (g : r ≡ form_told (form (take (end - at) (drop at text)))) where
@@ -201,26 +200,26 @@ module _ (text : List ℕ) (at end : ℕ) (table : List ℕ) (number : ℕ) (fie
     here : line_row sort_in (drop at text) ≡ sort_in body
     here = line-here sort_in sort_line (λ i. sort_words i before) sort-sound text at end fine.within e number table h
 
-    sorted-row : (x : Sort) → sort_in body ≡ some x → fields_of x ≡ [] → (exit : List ℕ) → exit ≡ sets table (number * stride) (sort_words at before x)
-        → SortLined at number before (line_row sort_in (drop at text)) table exit fields fields (Next (end + 1) before)
+    sorted-row : (x : Sort) → sort_in body ≡ Some x → fields_of x ≡ [] → (exit : List ℕ) → exit ≡ sets table (number * stride) (sort_words at before x)
+        → SortLined at number before (line_row sort_in (drop at text)) table exit fields fields (Some (record { at = end + 1; fields = before }))
     sorted-row x q none_of exit held =
-        let f : line_row sort_in (drop at text) ≡ some x = here ∙ q in
+        let f : line_row sort_in (drop at text) ≡ Some x = here ∙ q in
         let d : end + 1 ≡ at + length (sort_line x) = line-ends sort_in sort_line (λ i. sort_words i before) sort-sound text at end fine.within e number table x q in
         let b : before ≡ before + length (fields_of x) = omega (arith, ap length none_of) in
         record {
-          answers = ap₂ (λ (i j : ℕ). Next i j) d b ∙ ap (sort_told at before) (sym f);
+          answers = ap₂ (λ (i j : ℕ). (Some (record { at = i; fields = j }))) d b ∙ ap (sort_told at before) (sym f);
           holds = held ∙ ap (sort_held at number before table) (sym f);
           stay = refl;
           fields = λ y p.
-              subst (λ (v : Sort). take (before + length (fields_of v)) fields ≡ take before fields ++ fields_of v) (some-equal (sym f ∙ p))
+              subst (λ (v : Sort). take (before + length (fields_of v)) fields ≡ take before fields ++ fields_of v) (same_Some _ _ (sym f ∙ p))
               (ap (λ (i : ℕ). take i fields) (sym b) ∙ sym (append-nil (take before fields)) ∙ ap (λ (l : List ℕ). take before fields ++ l) (sym none_of));
         }
 
-    pub sorted-other : r ≡ sort.Other → SortLined at number before (line_row sort_in (drop at text)) table table fields fields Stop
+    pub sorted-other : r ≡ sort.Other → SortLined at number before (line_row sort_in (drop at text)) table table fields fields None
     sorted-other q = sorted_none (here ∙ told_none (form body) (sym q ∙ g))
 
     pub sorted-plain : (kind n : ℕ) → r ≡ sort.Plain kind n → (exit : List ℕ) → exit ≡ sets table (number * stride) (row_words 0 0 kind n 0)
-        → SortLined at number before (line_row sort_in (drop at text)) table exit fields fields (Next (end + 1) before)
+        → SortLined at number before (line_row sort_in (drop at text)) table exit fields fields (Some (record { at = end + 1; fields = before }))
     sorted-plain kind n q exit held =
         let t = told-plain at before (form body) kind n (sym q ∙ g) in
         sorted-row t.0 t.1 t.3 exit (held ∙ ap (sets table (number * stride)) t.2)
@@ -236,7 +235,7 @@ module _ (text : List ℕ) (at end : ℕ) (table : List ℕ) (number : ℕ) (fie
       sorted-starts = omega (arith, entity-size)
 
       pub sorted-entity : (exit : List ℕ) → exit ≡ sets table (number * stride) (row_words (at + 12) (end - at - 12) 9 0 0)
-          → SortLined at number before (line_row sort_in (drop at text)) table exit fields fields (Next (end + 1) before)
+          → SortLined at number before (line_row sort_in (drop at text)) table exit fields fields (Some (record { at = end + 1; fields = before }))
       sorted-entity exit held =
           let t = told-entity (form body) (sym q ∙ g) in
           let n : end - at - 12 ≡ length t.0 = omega (arith, entity-size) in
@@ -250,17 +249,17 @@ module _ (text : List ℕ) (at end : ℕ) (table : List ℕ) (number : ℕ) (fie
         ends = h;
       }
 
-      pub sorted_record : (exit after : List ℕ) (n : SortNext) → SortLined at number before (record_in (drop 12 body)) table exit fields after n
+      pub sorted_record : (exit after : List ℕ) (n : Option SortNext) → SortLined at number before (record_in (drop 12 body)) table exit fields after n
           → SortLined at number before (line_row sort_in (drop at text)) table exit fields after n
       sorted_record exit after n l = subst (λ (o : Option Sort). SortLined at number before o table exit fields after n) (sym (here ∙ (record_form body (sym q ∙ g)).0)) l
 
-told-next : (at before next count : ℕ) (o : Option Sort) → Next next count ≡ sort_told at before o → (x : Sort) × (o ≡ some x) × (next ≡ at + length (sort_line x)) × (count ≡ before + length (fields_of x))
-told-next at before next count none h = let z : ◌≡◌ {A = ℕ} 0 1 = cc in absurd (omega arith)
-told-next at before next count (some x) h = (x, refl, cc, cc)
+told-next : (at before next count : ℕ) (o : Option Sort) → (Some (record { at = next; fields = count })) ≡ sort_told at before o → (x : Sort) × (o ≡ Some x) × (next ≡ at + length (sort_line x)) × (count ≡ before + length (fields_of x))
+told-next at before next count None h = let z : ◌≡◌ {A = ℕ} 0 1 = cc in absurd (omega arith)
+told-next at before next count (Some x) h = let e = some-same h in (x, refl, ap (λ (n : SortNext). n.at) e, ap (λ (n : SortNext). n.fields) e)
 
-told-stop : (at before : ℕ) (o : Option Sort) → Stop ≡ sort_told at before o → o ≡ none
-told-stop at before none h = refl
-told-stop at before (some x) h = let z : ◌≡◌ {A = ℕ} 0 1 = cc in absurd (omega arith)
+told-stop : (at before : ℕ) (o : Option Sort) → None ≡ sort_told at before o → o ≡ None
+told-stop at before None h = refl
+told-stop at before (Some x) h = let z : ◌≡◌ {A = ℕ} 0 1 = cc in absurd (omega arith)
 
 pub record Sorting (text entry list : List ℕ) (at number count : ℕ) (table fields : List ℕ) : Type 0 where
   pub long : length table ≡ length entry
@@ -305,10 +304,12 @@ module _ (text entry list : List ℕ) (at number count : ℕ) (table fields : Li
         lists = stay ∙ sym (append-nil (take count fields)) ∙ ap (λ (l : List Sort). take count fields ++ all_fields l) (sym r) ∙ so.lists;
       }
 
-  pub sorting_full : row_limit ≤ number → SortsWalked (walk sort_in row_limit text) table fields (record { at = at; rows = number; fields = count })
+  pub sorting_full : row_limit ≤ number → SortsWalked (walk sort_in row_limit text) table fields (record { at = at; rows = row_limit; fields = count })
   sorting_full h =
       let z : row_limit - number ≡ 0 = omega arith in
-      sorting_end (ap (λ (k : ℕ). walk sort_in k (drop at text)) z ∙ walk_none sort_in (drop at text)) table fields refl refl
+      let e : number ≡ row_limit = omega (arith, so.few) in
+      subst (λ (n : ℕ). SortsWalked (walk sort_in row_limit text) table fields (record { at = at; rows = n; fields = count })) e
+      (sorting_end (ap (λ (k : ℕ). walk sort_in k (drop at text)) z ∙ walk_none sort_in (drop at text)) table fields refl refl)
 
   module _ (less : number < row_limit) where
     pub sorting_fine : FineSort text at table number fields count
@@ -319,26 +320,26 @@ module _ (text entry list : List ℕ) (at number count : ℕ) (table fields : Li
       ample = omega (arith, so.listed, ample);
     }
 
-    module _ (table' fields' : List ℕ) (r : SortNext) (l : SortLined at number count (line_row sort_in (drop at text)) table table' fields fields' r) where
-      pub sorting_stop : r ≡ Stop → SortsWalked (walk sort_in row_limit text) table' fields' (record { at = at; rows = number; fields = count })
+    module _ (table' fields' : List ℕ) (r : Option SortNext) (l : SortLined at number count (line_row sort_in (drop at text)) table table' fields fields' r) where
+      pub sorting_stop : r ≡ None → SortsWalked (walk sort_in row_limit text) table' fields' (record { at = at; rows = number; fields = count })
       sorting_stop q =
-          let f : line_row sort_in (drop at text) ≡ none = told-stop at count (line_row sort_in (drop at text)) (sym q ∙ l.answers) in
+          let f : line_row sort_in (drop at text) ≡ None = told-stop at count (line_row sort_in (drop at text)) (sym q ∙ l.answers) in
           sorting_end (walk-stop sort_in (row_limit - number) (drop at text) f) table' fields' (l.holds ∙ ap (sort_held at number count table) f) l.stay
 
       pub sorting_long : length table' ≡ length entry
       sorting_long = ap length l.holds ∙ held (line_row sort_in (drop at text)) ∙ so.long
         where
           held : (o : Option Sort) → length (sort_held at number count table o) ≡ length table
-          held none = refl
-          held (some x) = length-sets table (number * stride) (sort_words at count x)
+          held None = refl
+          held (Some x) = length-sets table (number * stride) (sort_words at count x)
 
-      module _ (listed : length fields' ≡ length list) (next more : ℕ) (q : r ≡ Next next more) where
+      module _ (listed : length fields' ≡ length list) (next more : ℕ) (q : r ≡ Some (record { at = next; fields = more })) where
         pub sorting_step : Sorting text entry list next (number + 1) more table' fields'
         unfolding lines all_fields all_sort_words
         sorting_step =
             let t = told-next at count next more (line_row sort_in (drop at text)) (sym q ∙ l.answers) in
             let x = t.0 in
-            let f : line_row sort_in (drop at text) ≡ some x = t.1 in
+            let f : line_row sort_in (drop at text) ≡ Some x = t.1 in
             let n : next ≡ at + length (sort_line x) = t.2 in
             let c : more ≡ count + length (fields_of x) = t.3 in
             let k : row_limit - number ≡ suc (row_limit - (number + 1)) = omega arith in

@@ -1,29 +1,26 @@
 -- Words at the fronts of what was lent, or the need of the first buffer that is short.
 -- Assumes nothing.
-use mathlib.Core.Path.{◌≡◌, refl, sym, ap, ◌∙◌, subst}
+use Rattle.std.proofs.Common.{Err, None, Ok, Option, Result, Some}
+use mathlib.Core.Path.{◌≡◌, refl, sym, ap, ◌∙◌}
 use mathlib.Core.Bool.{Bool, true, false, cond}
 use mathlib.Core.List.{List, []}
-use Prim.Native.Nat.{ℕ, ◌+◌, ◌≤◌, ◌<◌}
+use Prim.Native.Nat.{ℕ, ◌≤◌, ◌<◌}
 use native.Mathlib.Omega.{arith}
 use lib.Dec.{leb}
-use lib.ListN.{length, take, get_or, set}
-use lib.Seq.{length-take-le, get_or-take}
+use lib.ListN.{length, take}
+use lib.Seq.{length-take-le}
 use borrow.Author.Tests.{le-leb, lt-leb}
 use Rattle.ground.proofs.Tests.{by_order}
 use Rattle.refusals.specs.declared.Refusal.{Refusal}
 use Rattle.refusals.specs.declared.Refusal.TheVariants.{BadTable, OutRoom}
 use Rattle.lent.specs.Left.{onto}
-use Rattle.lent.proofs.Copies.{Copying, copying-start, copying-within, copying-step, copying-end}
 use Rattle.tables.specs.Layout.{Lent}
-use Rattle.tables_text.specs.declared.read.TablesRead.{TablesRead}
-use Rattle.tables_text.specs.declared.read.TablesRead.TheVariants.{Read, Refused}
-use Rattle.tables_text.specs.declared.parse.Parsed.{Parsed}
-use Rattle.tables_text.specs.declared.parse.Parsed.TheVariants.{Rows, Other}
 use Rattle.tables_text.specs.Read.{Buffers, Left, refusing, stored, fitted, Leaves}
 use Rattle.tables_text.specs.Reading.{Fits}
 use Rattle.tables_text.specs.Fronts.{Within, short, first_short, answer_told, stored_by, Stored}
+use Rattle.tables_text.specs.declared.parse.Counts.{Counts}
 
-pub leaves-refused : (entry : Buffers) (why : _) → Leaves (refusing entry why) (Refused why) entry
+pub leaves-refused : (entry : Buffers) (why : _) → Leaves (refusing entry why) (Err why) entry
 leaves-refused entry why = record { answers = refl; holds = refl }
 
 pub buffers_equal : {a b c d e i j k m n : List ℕ} → a ≡ i → b ≡ j → c ≡ k → d ≡ m → e ≡ n
@@ -31,7 +28,7 @@ pub buffers_equal : {a b c d e i j k m n : List ℕ} → a ≡ i → b ≡ j →
 buffers_equal p q r s t = simp (p, q, r, s, t)
 
 module _ (entry : Buffers) (l : Lent) where
-  pub fit-stored : Fits l entry → (r : TablesRead) (exit : Buffers) → Leaves (stored entry l) r exit → Leaves (fitted entry l) r exit
+  pub fit-stored : Fits l entry → (r : Result Counts Refusal) (exit : Buffers) → Leaves (stored entry l) r exit → Leaves (fitted entry l) r exit
   unfolding fitted
   fit-stored f r exit s =
       rw (
@@ -43,92 +40,62 @@ module _ (entry : Buffers) (l : Lent) where
       )
       s
 
--- the first words of a room are copied one by one
-pub record Fronting (words : List ℕ) (count : ℕ) (entry out : List ℕ) (at : ℕ) : Type 0 where
-  pub held : count ≤ length words
-  pub copying : Copying (take count words) entry out at
-
-pub fronting_start : (words : List ℕ) (count : ℕ) (entry : List ℕ) → (count ≤ length words) × (count ≤ length entry) → Fronting words count entry entry 0
-fronting_start words count entry h = record { held = h.0; copying = copying-start (take count words) entry (omega (arith, h.1, length-take-le count words h.0)) }
-
-module _ (words : List ℕ) (count : ℕ) (entry out : List ℕ) (at : ℕ) (so : Fronting words count entry out at) where
-  long : length (take count words) ≡ count
-  long = length-take-le count words so.held
-
-  module _ (less : at < count) where
-    pub fronting_read : at < length words
-    fronting_read = omega (arith, so.held)
-
-    pub fronting_within : at < length out
-    fronting_within = copying-within (take count words) entry out at so.copying (omega (arith, long))
-
-    pub fronting_step : Fronting words count entry (set out at (get_or words at 0)) (at + 1)
-    fronting_step = record {
-      held = so.held;
-      copying =
-          subst (λ (x : ℕ). Copying (take count words) entry (set out at x) (at + 1)) (get_or-take count words at 0 less)
-          (copying-step (take count words) entry out at so.copying (omega (arith, long)));
-    }
-
-  pub fronting_end : count ≤ at → out ≡ onto (take count words) entry
-  fronting_end h = (copying-end (take count words) entry out at so.copying (omega (arith, long))).holds
-
 -- the answer that the rows and the lengths tell
-module _ (i j k m n sorts fields variables functions members : ℕ) (p : Parsed) (q : p ≡ Rows i j k m n) where
+module _ (i j k m n sorts fields variables functions members : ℕ) (p : Option Counts) (q : p ≡ Some (record { sorts = i; fields = j; variables = k; functions = m; members = n })) where
   rows_told : answer_told sorts fields variables functions members p ≡ first_short i j k m n sorts fields variables functions members
   rows_told = ap (answer_told sorts fields variables functions members) q
 
-  pub first_1 : sorts < i → Refused (OutRoom i) ≡ answer_told sorts fields variables functions members p
+  pub first_1 : sorts < i → Err (OutRoom i) ≡ answer_told sorts fields variables functions members p
   unfolding first_short
   first_1 h = sym (rows_told ∙ rw (lt-leb i sorts h) refl)
 
   module _ (a : i ≤ sorts) where
-    pub first_2 : fields < j → Refused (OutRoom j) ≡ answer_told sorts fields variables functions members p
+    pub first_2 : fields < j → Err (OutRoom j) ≡ answer_told sorts fields variables functions members p
     unfolding first_short
     first_2 h = sym (rows_told ∙ rw (le-leb i sorts a, lt-leb j fields h) refl)
 
     module _ (b : j ≤ fields) where
-      pub first_3 : variables < k → Refused (OutRoom k) ≡ answer_told sorts fields variables functions members p
+      pub first_3 : variables < k → Err (OutRoom k) ≡ answer_told sorts fields variables functions members p
       unfolding first_short
       first_3 h = sym (rows_told ∙ rw (le-leb i sorts a, le-leb j fields b, lt-leb k variables h) refl)
 
       module _ (c : k ≤ variables) where
-        pub first_4 : functions < m → Refused (OutRoom m) ≡ answer_told sorts fields variables functions members p
+        pub first_4 : functions < m → Err (OutRoom m) ≡ answer_told sorts fields variables functions members p
         unfolding first_short
         first_4 h = sym (rows_told ∙ rw (le-leb i sorts a, le-leb j fields b, le-leb k variables c, lt-leb m functions h) refl)
 
         module _ (d : m ≤ functions) where
-          pub first_5 : members < n → Refused (OutRoom n) ≡ answer_told sorts fields variables functions members p
+          pub first_5 : members < n → Err (OutRoom n) ≡ answer_told sorts fields variables functions members p
           unfolding first_short
           first_5 h = sym (rows_told ∙ rw (le-leb i sorts a, le-leb j fields b, le-leb k variables c, le-leb m functions d, lt-leb n members h) refl)
 
-          pub first-none : n ≤ members → Read i j k m n ≡ answer_told sorts fields variables functions members p
+          pub first-none : n ≤ members → (Ok (record { sorts = i; fields = j; variables = k; functions = m; members = n })) ≡ answer_told sorts fields variables functions members p
           unfolding first_short
           first-none h = sym (rows_told ∙ rw (le-leb i sorts a, le-leb j fields b, le-leb k variables c, le-leb m functions d, le-leb n members h) refl)
 
-pub none_told : (sorts fields variables functions members : ℕ) (p : Parsed) → p ≡ Other → Refused BadTable ≡ answer_told sorts fields variables functions members p
+pub none_told : (sorts fields variables functions members : ℕ) (p : Option Counts) → p ≡ None → Err BadTable ≡ answer_told sorts fields variables functions members p
 none_told sorts fields variables functions members p q = ap (answer_told sorts fields variables functions members) (sym q)
 
 -- what was read had room
-record Roomy (need room : ℕ) (rest : TablesRead) (i j k m n : ℕ) : Type 0 where
+record Roomy (need room : ℕ) (rest : Result Counts Refusal) (i j k m n : ℕ) : Type 0 where
   has : need ≤ room
-  next : rest ≡ Read i j k m n
+  next : rest ≡ Ok (record { sorts = i; fields = j; variables = k; functions = m; members = n })
 
-roomy : (need room : ℕ) (rest : TablesRead) (i j k m n : ℕ) → short need room rest ≡ Read i j k m n → Roomy need room rest i j k m n
+roomy : (need room : ℕ) (rest : Result Counts Refusal) (i j k m n : ℕ) → short need room rest ≡ Ok (record { sorts = i; fields = j; variables = k; functions = m; members = n }) → Roomy need room rest i j k m n
 roomy need room rest i j k m n q =
     by_order room need
     (λ l.
-    let y : Refused (OutRoom need) ≡ Read i j k m n = ap (λ (b : Bool). cond b rest (Refused (OutRoom need))) (sym (lt-leb need room l)) ∙ q in
+    let y : Err (OutRoom need) ≡ (Ok (record { sorts = i; fields = j; variables = k; functions = m; members = n })) = ap (λ (b : Bool). cond b rest (Err (OutRoom need))) (sym (lt-leb need room l)) ∙ q in
     let z : ◌≡◌ {A = ℕ} 0 1 = cc in
     absurd (omega arith))
-    (λ l. record { has = l; next = ap (λ (b : Bool). cond b rest (Refused (OutRoom need))) (sym (le-leb need room l)) ∙ q })
+    (λ l. record { has = l; next = ap (λ (b : Bool). cond b rest (Err (OutRoom need))) (sym (le-leb need room l)) ∙ q })
 
 -- what is left, by the answer
 module _ (rows entry : Buffers) where
-  abbrev pub left_by : TablesRead → Left
+  abbrev pub left_by : Result Counts Refusal → Left
   left_by answer = record { answer = answer; holds = stored_by rows entry answer }
 
-  left_by_lem : (t : Bool) (need : ℕ) (rest : TablesRead) (x : Left) → x ≡ left_by rest → cond t x (refusing entry (OutRoom need)) ≡ left_by (cond t rest (Refused (OutRoom need)))
+  left_by_lem : (t : Bool) (need : ℕ) (rest : Result Counts Refusal) (x : Left) → x ≡ left_by rest → cond t x (refusing entry (OutRoom need)) ≡ left_by (cond t rest (Err (OutRoom need)))
   left_by_lem true need rest x q = q
   left_by_lem false need rest x q = refl
 
@@ -136,7 +103,7 @@ module _ (rows entry : Buffers) where
     abbrev pub words : Lent
     words = record { sorts = take i rows.sorts; fields = take j rows.fields; variables = take k rows.variables; functions = take m rows.functions; members = take n rows.members; names = [] }
 
-    abbrev pub first : TablesRead
+    abbrev pub first : Result Counts Refusal
     first = first_short i j k m n (length entry.sorts) (length entry.fields) (length entry.variables) (length entry.functions) (length entry.members)
 
     module _ (w : Within i j k m n rows) where
@@ -155,13 +122,13 @@ module _ (rows entry : Buffers) where
       size_5 : length (take n rows.members) ≡ n
       size_5 = length-take-le n rows.members w.members
 
-      five-equal : {a b c d e : ℕ} → a ≡ i → b ≡ j → c ≡ k → d ≡ m → e ≡ n → Read a b c d e ≡ Read i j k m n
+      five-equal : {a b c d e : ℕ} → a ≡ i → b ≡ j → c ≡ k → d ≡ m → e ≡ n → ◌≡◌ {A = Result Counts Refusal} (Ok (record { sorts = a; fields = b; variables = c; functions = d; members = e })) (Ok (record { sorts = i; fields = j; variables = k; functions = m; members = n }))
       five-equal p q r s t = cc
 
-      stored-so : stored entry words ≡ left_by (Read i j k m n)
-      stored-so = ap (λ (x : TablesRead). record { answer = x; holds = stored_by rows entry (Read i j k m n) }) (five-equal size_1 size_2 size_3 size_4 size_5)
+      stored-so : stored entry words ≡ left_by (Ok (record { sorts = i; fields = j; variables = k; functions = m; members = n }))
+      stored-so = ap (λ (x : Result Counts Refusal). record { answer = x; holds = stored_by rows entry (Ok (record { sorts = i; fields = j; variables = k; functions = m; members = n })) }) (five-equal size_1 size_2 size_3 size_4 size_5)
 
-      fitting-so : (t u : ℕ) (room : ℕ) (rest : TablesRead) (x : Left) → t ≡ u → x ≡ left_by rest
+      fitting-so : (t u : ℕ) (room : ℕ) (rest : Result Counts Refusal) (x : Left) → t ≡ u → x ≡ left_by rest
           → cond (leb t room) x (refusing entry (OutRoom t)) ≡ left_by (short u room rest)
       fitting-so t u room rest x e q = ap (λ (z : ℕ). cond (leb z room) x (refusing entry (OutRoom z))) e ∙ left_by_lem (leb u room) u rest x q
 
@@ -172,25 +139,25 @@ module _ (rows entry : Buffers) where
           (fitting-so (length (take j rows.fields)) j (length entry.fields) _ _ size_2
           (fitting-so (length (take k rows.variables)) k (length entry.variables) _ _ size_3
           (fitting-so (length (take m rows.functions)) m (length entry.functions) _ _ size_4
-          (fitting-so (length (take n rows.members)) n (length entry.members) (Read i j k m n) (stored entry words) size_5 stored-so))))
+          (fitting-so (length (take n rows.members)) n (length entry.members) (Ok (record { sorts = i; fields = j; variables = k; functions = m; members = n })) (stored entry words) size_5 stored-so))))
 
-    pub read-within : (a b c d e : ℕ) → first ≡ Read a b c d e → (Read i j k m n ≡ Read a b c d e) × Within i j k m n entry
+    pub read-within : (a b c d e : ℕ) → first ≡ Ok (record { sorts = a; fields = b; variables = c; functions = d; members = e }) → ◌≡◌ {A = Result Counts Refusal} (Ok (record { sorts = i; fields = j; variables = k; functions = m; members = n })) (Ok (record { sorts = a; fields = b; variables = c; functions = d; members = e })) × Within i j k m n entry
     unfolding first_short
     read-within a b c d e q =
         let f = roomy i (length entry.sorts) _ a b c d e q in
         let g = roomy j (length entry.fields) _ a b c d e f.next in
         let h = roomy k (length entry.variables) _ a b c d e g.next in
         let o = roomy m (length entry.functions) _ a b c d e h.next in
-        let p = roomy n (length entry.members) (Read i j k m n) a b c d e o.next in
+        let p = roomy n (length entry.members) (Ok (record { sorts = i; fields = j; variables = k; functions = m; members = n })) a b c d e o.next in
         (p.next, record { sorts = f.has; fields = g.has; variables = h.has; functions = o.has; members = p.has })
 
 -- what the code that stores does
-module _ (answer : TablesRead) (rows entry : Buffers) where
-  pub none-stored : (why : Refusal) → answer ≡ Refused why → Stored answer rows entry (Refused why) entry
+module _ (answer : Result Counts Refusal) (rows entry : Buffers) where
+  pub none-stored : (why : Refusal) → answer ≡ Err why → Stored answer rows entry (Err why) entry
   none-stored why q = record { answers = sym q; holds = ap (stored_by rows entry) (sym q) }
 
-  pub all-stored : (i j k m n : ℕ) → answer ≡ Read i j k m n → (a b c d e : List ℕ)
+  pub all-stored : (i j k m n : ℕ) → answer ≡ Ok (record { sorts = i; fields = j; variables = k; functions = m; members = n }) → (a b c d e : List ℕ)
       → a ≡ onto (take i rows.sorts) entry.sorts → b ≡ onto (take j rows.fields) entry.fields
       → c ≡ onto (take k rows.variables) entry.variables → d ≡ onto (take m rows.functions) entry.functions → e ≡ onto (take n rows.members) entry.members
-      → Stored answer rows entry (Read i j k m n) (record { sorts = a; fields = b; variables = c; functions = d; members = e })
+      → Stored answer rows entry (Ok (record { sorts = i; fields = j; variables = k; functions = m; members = n })) (record { sorts = a; fields = b; variables = c; functions = d; members = e })
   all-stored i j k m n q a b c d e p s t u v = record { answers = sym q; holds = buffers_equal p s t u v ∙ ap (stored_by rows entry) (sym q) }

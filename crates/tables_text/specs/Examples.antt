@@ -1,14 +1,12 @@
 -- Document 01, "The listing" and "Numbers given back": its sample of the tables' text form, the lines that it names besides, numbers
 -- that no line has, and which of two short buffers is told.
-use Rattle.std.specs.Prelude.{◌≡◌, refl, [], ◌∷◌, map}
-use Rattle.std.proofs.Math.Option.{none, some}
+use Rattle.std.specs.Prelude.{◌≡◌, refl, [], ◌∷◌, map, None, Some, Err}
 use Rattle.ground.specs.Bytes.{bytes}
 use Rattle.ground.specs.Lists.{joined}
 use Rattle.refusals.specs.declared.Refusal.TheVariants.{OutRoom}
 use Rattle.decimals.specs.Decimal.{decimal, last_digits, digit_count_within}
 use Rattle.tables.specs.Sort as Sort
 use Rattle.tables.specs.Sort.{Sort, bool, ext, bit_vec, option_of, set_of, entity_of, record_of, Tables}
-use Rattle.tables_text.specs.declared.read.TablesRead.TheVariants.{Refused}
 use Rattle.tables_text.specs.Line.{lines, sort_line, member_line, written}
 use Rattle.tables_text.specs.Parse.{digits_from, numeral}
 use Rattle.tables_text.specs.Read.{Buffers, fitted}
@@ -42,7 +40,7 @@ bare-text = refl
 
 -- a leading zero, no digit, a sign; five digits; 0 and 1,023
 numbers : map numeral (bytes "08" ∷ bytes "00" ∷ [] ∷ bytes "+8" ∷ bytes "10000" ∷ bytes "0" ∷ bytes "1023" ∷ [])
-    ≡ none ∷ none ∷ none ∷ none ∷ none ∷ some 0 ∷ some 1023 ∷ []
+    ≡ None ∷ None ∷ None ∷ None ∷ None ∷ Some 0 ∷ Some 1023 ∷ []
 unfolding numeral digits_from
 numbers = refl
 
@@ -50,7 +48,7 @@ numbers = refl
 abbrev none_lent : Buffers
 none_lent = record { sorts = []; fields = []; variables = []; functions = []; members = [] }
 
-sorts-first : (fitted none_lent (record { sorts = 0 ∷ 1 ∷ 10 ∷ 0 ∷ 2 ∷ []; fields = 0 ∷ 0 ∷ []; variables = []; functions = []; members = []; names = [] })).answer ≡ Refused (OutRoom 5)
+sorts-first : (fitted none_lent (record { sorts = 0 ∷ 1 ∷ 10 ∷ 0 ∷ 2 ∷ []; fields = 0 ∷ 0 ∷ []; variables = []; functions = []; members = []; names = [] })).answer ≡ Err (OutRoom 5)
 unfolding fitted
 sorts-first = refl
 
@@ -58,6 +56,6 @@ sorts-first = refl
 fields-next :
     (fitted (record { sorts = 7 ∷ 7 ∷ 7 ∷ 7 ∷ 7 ∷ []; fields = 7 ∷ []; variables = []; functions = []; members = [] })
     (record { sorts = 0 ∷ 1 ∷ 10 ∷ 0 ∷ 2 ∷ []; fields = 0 ∷ 0 ∷ []; variables = []; functions = []; members = []; names = [] })).answer
-    ≡ Refused (OutRoom 2)
+    ≡ Err (OutRoom 2)
 unfolding fitted
 fields-next = refl

@@ -1,7 +1,6 @@
 -- How the lines of document 01's tables' text are walked: what each spells, kind after kind; laws `read_back` and `spelled-so` tie it
 -- to `written`.
-use Rattle.std.specs.Prelude.{Bool, true, false, not, cond, ◌&&◌, List, [], ◌∷◌, ℕ, zero, suc, ◌+◌, ◌-◌, ◌*◌, eqb, leb, ltb, length, take, drop}
-use Rattle.std.proofs.Math.Option.{Option, none, some}
+use Rattle.std.specs.Prelude.{Bool, true, false, not, cond, ◌&&◌, List, [], ◌∷◌, ℕ, zero, suc, ◌+◌, ◌-◌, ◌*◌, eqb, leb, ltb, length, take, drop, None, Option, Some}
 use Rattle.ground.specs.Bytes.{bytes}
 use Rattle.ground.specs.Options.{over}
 use Rattle.lexicon.specs.Span.{span_by}
@@ -29,7 +28,7 @@ pub record Cut : Type 0 where
   pub rest : List ℕ
 
 unfoldable pub cut_at : ℕ → List ℕ → Option Cut
-cut_at byte s = cond (ltb (span_to byte s) (length s)) (some (record { word = take (span_to byte s) s; rest = drop (suc (span_to byte s)) s })) none
+cut_at byte s = cond (ltb (span_to byte s) (length s)) (Some (record { word = take (span_to byte s) s; rest = drop (suc (span_to byte s)) s })) None
 
 abbrev pub space : ℕ
 space = 0x20
@@ -39,16 +38,16 @@ line_feed = 0x0A
 
 -- a number goes on after the digits that made n; no lawful row has one of more than four digits
 unfoldable pub digits_from : ℕ → List ℕ → Option ℕ
-digits_from n [] = some n
-digits_from n (b ∷ bs) = cond (leb 48 b && leb b 57 && ltb n 1000) (digits_from (n * 10 + (b - 48)) bs) none
+digits_from n [] = Some n
+digits_from n (b ∷ bs) = cond (leb 48 b && leb b 57 && ltb n 1000) (digits_from (n * 10 + (b - 48)) bs) None
 
 abbrev pub alone : List ℕ → Option ℕ
-alone [] = some 0
-alone (b ∷ bs) = none
+alone [] = Some 0
+alone (b ∷ bs) = None
 
 -- no leading zero
 unfoldable pub numeral : List ℕ → Option ℕ
-numeral [] = none
+numeral [] = None
 numeral (b ∷ bs) = cond (eqb b 48) (alone bs) (digits_from 0 (b ∷ bs))
 
 -- the words between single spaces
@@ -66,22 +65,22 @@ further [] = []
 further (b ∷ bs) = pieces bs
 
 unfoldable pub numerals : List (List ℕ) → Option (List ℕ)
-numerals [] = some []
-numerals (w ∷ ws) = over (numeral w) (λ n. over (numerals ws) (λ ns. some (n ∷ ns)))
+numerals [] = Some []
+numerals (w ∷ ws) = over (numeral w) (λ n. over (numerals ws) (λ ns. Some (n ∷ ns)))
 
 -- a record's name and rows
 unfoldable pub record_in : List ℕ → Option Sort
-record_in s = over (numerals (further (drop (span_to space s) s))) (λ rows. some (record_of (take (span_to space s) s) rows))
+record_in s = over (numerals (further (drop (span_to space s) s))) (λ rows. Some (record_of (take (span_to space s) s) rows))
 
 -- a sort's line; of a record, all of its fields still stand as its name
 abbrev pub numbered : (ℕ → Sort) → List ℕ → Option Sort
-numbered sort s = over (numeral s) (λ n. some (sort n))
+numbered sort s = over (numeral s) (λ n. Some (sort n))
 
 unfoldable pub named_form : List ℕ → Option Sort
 named_form s =
-    cond (begins (bytes "sort=entity ") s) (some (entity_of (drop 12 s)))
-    (cond (begins (bytes "sort=record ") s) (some (record_of (drop 12 s) []))
-    none)
+    cond (begins (bytes "sort=entity ") s) (Some (entity_of (drop 12 s)))
+    (cond (begins (bytes "sort=record ") s) (Some (record_of (drop 12 s) []))
+    None)
 
 unfoldable pub numbered_form : List ℕ → Option Sort
 numbered_form s =
@@ -92,33 +91,33 @@ numbered_form s =
 
 unfoldable pub form : List ℕ → Option Sort
 form s =
-    cond (same_text s (bytes "sort=bool")) (some bool)
-    (cond (same_text s (bytes "sort=string")) (some string)
-    (cond (same_text s (bytes "sort=decimal")) (some (ext Sort.decimal))
-    (cond (same_text s (bytes "sort=datetime")) (some (ext Sort.datetime))
-    (cond (same_text s (bytes "sort=duration")) (some (ext Sort.duration))
+    cond (same_text s (bytes "sort=bool")) (Some bool)
+    (cond (same_text s (bytes "sort=string")) (Some string)
+    (cond (same_text s (bytes "sort=decimal")) (Some (ext Sort.decimal))
+    (cond (same_text s (bytes "sort=datetime")) (Some (ext Sort.datetime))
+    (cond (same_text s (bytes "sort=duration")) (Some (ext Sort.duration))
     (numbered_form s)))))
 
 abbrev pub filled : Option Sort → Option Sort
-filled none = none
-filled (some bool) = some bool
-filled (some string) = some string
-filled (some (ext e)) = some (ext e)
-filled (some (bit_vec width)) = some (bit_vec width)
-filled (some (option_of row)) = some (option_of row)
-filled (some (set_of row)) = some (set_of row)
-filled (some (entity_of name)) = some (entity_of name)
-filled (some (record_of s fields)) = record_in s
+filled None = None
+filled (Some bool) = Some bool
+filled (Some string) = Some string
+filled (Some (ext e)) = Some (ext e)
+filled (Some (bit_vec width)) = Some (bit_vec width)
+filled (Some (option_of row)) = Some (option_of row)
+filled (Some (set_of row)) = Some (set_of row)
+filled (Some (entity_of name)) = Some (entity_of name)
+filled (Some (record_of s fields)) = record_in s
 
 abbrev pub sort_in : List ℕ → Option Sort
 sort_in s = filled (form s)
 
 -- the lines of the other kinds
 unfoldable pub variable_after : List ℕ → Option Variable
-variable_after s = over (cut_at space s) (λ c. over (numeral c.rest) (λ n. some (record { name = c.word; sort = n })))
+variable_after s = over (cut_at space s) (λ c. over (numeral c.rest) (λ n. Some (record { name = c.word; sort = n })))
 
 unfoldable pub variable_in : List ℕ → Option Variable
-variable_in s = cond (begins (bytes "var=") s) (variable_after (drop 4 s)) none
+variable_in s = cond (begins (bytes "var=") s) (variable_after (drop 4 s)) None
 
 -- a number that a space ends
 pub record Led : Type 0 where
@@ -127,26 +126,26 @@ pub record Led : Type 0 where
   pub rest : List ℕ
 
 unfoldable pub led : List ℕ → Option Led
-led s = over (cut_at space s) (λ c. over (numeral c.word) (λ n. some (record { number = n; word = c.word; rest = c.rest })))
+led s = over (cut_at space s) (λ c. over (numeral c.word) (λ n. Some (record { number = n; word = c.word; rest = c.rest })))
 
 unfoldable pub function_after : List ℕ → Option Function
 function_after s =
     over (cut_at space s)
     (λ c. over (led c.rest)
     (λ d. over (numeral d.rest)
-    (λ n. some (record { name = c.word; argument = d.number; result = n }))))
+    (λ n. Some (record { name = c.word; argument = d.number; result = n }))))
 
 unfoldable pub function_in : List ℕ → Option Function
-function_in s = cond (begins (bytes "fun=") s) (function_after (drop 4 s)) none
+function_in s = cond (begins (bytes "fun=") s) (function_after (drop 4 s)) None
 
 unfoldable pub member_after : List ℕ → Option Member
 member_after s =
     over (cut_at space s)
     (λ c. over (led c.rest)
-    (λ d. some (record { name = c.word; entity = d.number; text = d.rest })))
+    (λ d. Some (record { name = c.word; entity = d.number; text = d.rest })))
 
 unfoldable pub member_in : List ℕ → Option Member
-member_in s = cond (begins (bytes "enum=") s) (member_after (drop 5 s)) none
+member_in s = cond (begins (bytes "enum=") s) (member_after (drop 5 s)) None
 
 -- rows one after the other, as long as a whole line is one, and at most so many; and what is left
 pub record Walked (A : Type 0) : Type 0 where
@@ -157,8 +156,8 @@ abbrev pub stopped : {A : Type 0} → List ℕ → Walked A
 stopped s = record { rows = []; rest = s }
 
 abbrev pub went : {A : Type 0} → List ℕ → Option A → Walked A → Walked A
-went s none more = stopped s
-went s (some x) more = record { rows = x ∷ more.rows; rest = more.rest }
+went s None more = stopped s
+went s (Some x) more = record { rows = x ∷ more.rows; rest = more.rest }
 
 module _ {A : Type 0} (row : List ℕ → Option A) where
   unfoldable pub line_row : List ℕ → Option A
@@ -181,8 +180,8 @@ abbrev pub member_rows : List ℕ → Walked Member
 member_rows s = walk member_in row_limit (function_rows s).rest
 
 abbrev pub ended : {A : Type 0} → List ℕ → A → Option A
-ended [] x = some x
-ended (b ∷ bs) x = none
+ended [] x = Some x
+ended (b ∷ bs) x = None
 
 -- the kinds in their order, to the text's end
 unfoldable pub parse : List ℕ → Option Tables

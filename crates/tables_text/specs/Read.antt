@@ -1,17 +1,16 @@
 -- Document 01, "The listing" and "Numbers given back": what reading a tables' text answers, and what it leaves in all that was
 -- lent: 9 over 65,536 bytes; 25 for a text that is no lawful tables' form; then 26 with the need of the first short buffer, in
 -- the order sorts, fields, variables, functions, members, in words.
-use Rattle.std.specs.Prelude.{◌≡◌, true, cond, List, ℕ, ◌≤◌, ◌<◌, leb, length}
+use Rattle.std.specs.Prelude.{◌≡◌, true, cond, List, ℕ, ◌≤◌, ◌<◌, leb, length, Err, Ok, Result}
 use Rattle.refusals.specs.declared.Refusal.{Refusal}
 use Rattle.refusals.specs.declared.Refusal.TheVariants.{InputTooLong, BadTable, OutRoom}
 use Rattle.lent.specs.Left.{onto}
 use Rattle.tables.specs.Sort.{Tables}
 use Rattle.tables.specs.Layout.{Lent}
 use Rattle.tables.specs.Rules.{lawful}
-use Rattle.tables_text.specs.declared.read.TablesRead.{TablesRead}
-use Rattle.tables_text.specs.declared.read.TablesRead.TheVariants.{Read, Refused}
 use Rattle.tables_text.specs.Line.{written, writable}
 use Rattle.tables_text.specs.Words.{laid}
+use Rattle.tables_text.specs.declared.parse.Counts.{Counts}
 
 abbrev pub text_limit : ℕ
 text_limit = 65536
@@ -31,12 +30,12 @@ pub record Buffers : Type 0 where
   pub members : List ℕ
 
 pub record Left : Type 0 where
-  pub answer : TablesRead
+  pub answer : Result Counts Refusal
   pub holds : Buffers
 
 module _ (entry : Buffers) where
   abbrev pub refusing : Refusal → Left
-  refusing why = record { answer = Refused why; holds = entry }
+  refusing why = record { answer = Err why; holds = entry }
 
   -- the first buffer that is short
   abbrev pub fitting : List ℕ → List ℕ → Left → Left
@@ -45,7 +44,7 @@ module _ (entry : Buffers) where
   -- each table at the front of its buffer; the answer tells how many words each has
   abbrev pub stored : Lent → Left
   stored l = record {
-    answer = Read (length l.sorts) (length l.fields) (length l.variables) (length l.functions) (length l.members);
+    answer = (Ok (record { sorts = length l.sorts; fields = length l.fields; variables = length l.variables; functions = length l.functions; members = length l.members }));
     holds = record {
       sorts = onto l.sorts entry.sorts;
       fields = onto l.fields entry.fields;
@@ -64,12 +63,12 @@ module _ (entry : Buffers) where
       (fitting l.members entry.members
       (stored l)))))
 
-pub record Leaves (left : Left) (r : TablesRead) (exit : Buffers) : Type 0 where
+pub record Leaves (left : Left) (r : Result Counts Refusal) (exit : Buffers) : Type 0 where
   pub answers : r ≡ left.answer
   pub holds : exit ≡ left.holds
 
 -- what a call may answer and leave
-pub record Reads (text : List ℕ) (entry : Buffers) (r : TablesRead) (exit : Buffers) : Type 0 where
+pub record Reads (text : List ℕ) (entry : Buffers) (r : Result Counts Refusal) (exit : Buffers) : Type 0 where
   pub long : text_limit < length text → Leaves (refusing entry InputTooLong) r exit
   pub spelled : length text ≤ text_limit → (t : Tables) → Spells text t → Leaves (fitted entry (laid t text)) r exit
   pub other : length text ≤ text_limit → ((t : Tables) → Spells text t → ⊥) → Leaves (refusing entry BadTable) r exit

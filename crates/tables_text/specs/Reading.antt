@@ -1,6 +1,5 @@
 -- How the reader decides; law `reads_so` ties it to what document 01 asks of it, `Reads`.
-use Rattle.std.specs.Prelude.{cond, List, ℕ, ◌≤◌, leb, length}
-use Rattle.std.proofs.Math.Option.{Option, none, some}
+use Rattle.std.specs.Prelude.{cond, List, ℕ, ◌≤◌, leb, length, None, Option, Some}
 use Rattle.refusals.specs.declared.Refusal.TheVariants.{InputTooLong, BadTable}
 use Rattle.tables.specs.Sort.{Tables}
 use Rattle.tables.specs.Layout.{Lent}
@@ -23,8 +22,8 @@ module _ (entry : Buffers) where
   judged l = cond (passes l) (fitted entry l) (refusing entry BadTable)
 
   abbrev pub of_parsed : List ℕ → Option Tables → Left
-  of_parsed text none = refusing entry BadTable
-  of_parsed text (some t) = judged (laid t text)
+  of_parsed text None = refusing entry BadTable
+  of_parsed text (Some t) = judged (laid t text)
 
   unfoldable pub of_text : List ℕ → Left
   of_text text = of_parsed text (parse text)

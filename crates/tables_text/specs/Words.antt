@@ -1,7 +1,6 @@
 -- Document 01, "The listing", the tables' text form, and the tables crate's rows: the words of the rows whose names stand in the text.
 use Rattle.std.specs.Prelude.{List, [], ◌∷◌, ◌++◌, ℕ, ◌+◌, length}
 use Rattle.decimals.specs.Decimal.{decimal}
-use Rattle.tables.specs.Sort as Sort
 use Rattle.tables.specs.Sort.{Sort, bool, string, ext, bit_vec, option_of, set_of, entity_of, record_of, Variable, Function, Member, Tables}
 use Rattle.tables.specs.Layout.{Lent}
 use Rattle.tables.specs.Rules.{ext_kind}

@@ -11,4 +11,5 @@ mod sorts;
 mod store;
 mod walk;
 
-pub use read::{TablesRead, read_tables};
+pub use parse::Counts;
+pub use read::read_tables;

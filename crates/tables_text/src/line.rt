@@ -12,12 +12,10 @@ pub fn starts(s: &[u8], key: &[u8]) -> bool
 pub fn end_at(s: &[u8], start: usize, byte: u8) -> usize
     ensures { result ≡ start + span_to byte (drop start s.now) }
 {
-    let mut at = start;
-    while at < s.len() {
+    for at in start..s.len() {
         if s[at] == byte {
             return at;
         }
-        at += 1;
     }
-    at
+    start.max(s.len())
 }

@@ -3,62 +3,43 @@ ghost use Rattle.tables_text.specs.Parsing.{Rooms, Parses, Passing};
 
 use crate::sorts::sort_rows;
 use crate::walk::{function_rows, member_rows, variable_rows};
-use tables::{Checked, STRIDE};
+use tables::STRIDE;
 
 // How many words each table has, or lines that are no lawful tables' form.
 #[derive(Clone, Copy)]
-pub enum Parsed {
-    Rows {
-        sorts: usize,
-        fields: usize,
-        variables: usize,
-        functions: usize,
-        members: usize,
-    },
-    Other,
+pub struct Counts {
+    pub sorts: usize,
+    pub fields: usize,
+    pub variables: usize,
+    pub functions: usize,
+    pub members: usize,
 }
 
 // Parts are taken and paths part here, where nothing is lent to be written: both cost the proof more, the more is lent so.
 fn judge(
-    parsed: Parsed,
+    parsed: Option<Counts>,
     text: &[u8],
     a: &[u64],
     b: &[u64],
     c: &[u64],
     d: &[u64],
     e: &[u64],
-) -> Parsed
+) -> Option<Counts>
     requires { Parses text.now a.now b.now c.now d.now e.now parsed }
     ensures { Passing text.now a.now b.now c.now d.now e.now result }
 {
-    let Parsed::Rows {
-        sorts: i,
-        fields: j,
-        variables: k,
-        functions: m,
-        members: n,
-    } = parsed
-    else {
-        return Parsed::Other;
-    };
-    let zero = 0;
+    let counts = parsed?;
     let answer = tables::check_tables(
-        &a[zero..i],
-        &b[zero..j],
-        &c[zero..k],
-        &d[zero..m],
-        &e[zero..n],
+        &a[..counts.sorts],
+        &b[..counts.fields],
+        &c[..counts.variables],
+        &d[..counts.functions],
+        &e[..counts.members],
         text,
     );
     match answer {
-        Checked::Passed => Parsed::Rows {
-            sorts: i,
-            fields: j,
-            variables: k,
-            functions: m,
-            members: n,
-        },
-        Checked::Refused(_) => Parsed::Other,
+        Ok(()) => Some(counts),
+        Err(_) => None,
     }
 }
 
@@ -69,7 +50,7 @@ pub fn parse_rows(
     variables: &mut [u64],
     functions: &mut [u64],
     members: &mut [u64],
-) -> Parsed
+) -> Option<Counts>
     requires { Rooms text.now sorts.old fields.old variables.old functions.old members.old }
     ensures { Passing text.now sorts.new fields.new variables.new functions.new members.new result }
 {
@@ -78,14 +59,14 @@ pub fn parse_rows(
     let third = function_rows(text, second.at, functions);
     let last = member_rows(text, third.at, members);
     if last.at < text.len() {
-        return Parsed::Other;
+        return None;
     }
-    let parsed = Parsed::Rows {
+    let parsed = Some(Counts {
         sorts: first.rows * STRIDE,
         fields: first.fields,
         variables: second.rows * STRIDE,
         functions: third.rows * STRIDE,
         members: last.rows * STRIDE,
-    };
+    });
     judge(parsed, text, sorts, fields, variables, functions, members)
 }

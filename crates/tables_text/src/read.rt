@@ -2,21 +2,9 @@
 ghost use Rattle.std.specs.Prelude.{◌≡◌, length};
 ghost use Rattle.tables_text.specs.Read.{Reads};
 
-use crate::parse::parse_rows;
+use crate::parse::{Counts, parse_rows};
 use crate::store::{answer_for, store};
 use refusals::Refusal;
-
-#[derive(Clone, Copy)]
-pub enum TablesRead {
-    Read {
-        sorts: usize,
-        fields: usize,
-        variables: usize,
-        functions: usize,
-        members: usize,
-    },
-    Refused(Refusal),
-}
 
 const TEXT_LIMIT: usize = 65536;
 
@@ -42,11 +30,11 @@ pub fn read_tables(
     variables: &mut [u64],
     functions: &mut [u64],
     members: &mut [u64],
-) -> TablesRead
+) -> Result<Counts, Refusal>
     ensures { Reads text.now (record { sorts = sorts.old; fields = fields.old; variables = variables.old; functions = functions.old; members = members.old }) result (record { sorts = sorts.new; fields = fields.new; variables = variables.new; functions = functions.new; members = members.new }) }
 {
     if TEXT_LIMIT < text.len() {
-        return TablesRead::Refused(Refusal::InputTooLong);
+        return Err(Refusal::InputTooLong);
     }
     let mut a = row_words();
     let mut b = field_words();

@@ -4,130 +4,102 @@ ghost use Rattle.tables_text.specs.Parse.{led, variable_in, function_in, member_
 ghost use Rattle.tables_text.specs.Told.{before_told, variable_told, function_told, member_told};
 
 use crate::line::{end_at, starts};
-use crate::number::{Number, number_in};
+use crate::number::number_in;
 
 // A number that a space ends, and where what follows the space begins.
 #[derive(Clone, Copy)]
-pub enum Before {
-    Is { number: u64, next: usize },
-    Other,
+pub struct Before {
+    pub number: u64,
+    pub next: usize,
 }
 
 // How long the name is, and the row of its sort.
 #[derive(Clone, Copy)]
-pub enum VariableLine {
-    Row { name: usize, sort: u64 },
-    Other,
+pub struct VariableLine {
+    pub name: usize,
+    pub sort: u64,
 }
 
 #[derive(Clone, Copy)]
-pub enum FunctionLine {
-    Row {
-        name: usize,
-        argument: u64,
-        result: u64,
-    },
-    Other,
+pub struct FunctionLine {
+    pub name: usize,
+    pub argument: u64,
+    pub result: u64,
 }
 
 // How long the name is, the entity's row, and how long the text is, which ends the line.
 #[derive(Clone, Copy)]
-pub enum MemberLine {
-    Row {
-        name: usize,
-        entity: u64,
-        text: usize,
-    },
-    Other,
+pub struct MemberLine {
+    pub name: usize,
+    pub entity: u64,
+    pub text: usize,
 }
 
-fn number_before(s: &[u8], start: usize) -> Before
+fn number_before(s: &[u8], start: usize) -> Option<Before>
     requires { start ≤ length s.now }
     ensures { result ≡ before_told start (led (drop start s.now)) }
 {
     let end = end_at(s, start, b' ');
     if s.len() <= end {
-        return Before::Other;
+        return None;
     }
-    let number = number_in(&s[start..end]);
-    match number {
-        Number::Is(number) => Before::Is {
-            number,
-            next: end + 1,
-        },
-        Number::Other => Before::Other,
-    }
+    let number = number_in(&s[start..end])?;
+    Some(Before {
+        number,
+        next: end + 1,
+    })
 }
 
-pub fn variable_in(s: &[u8]) -> VariableLine
+pub fn variable_in(s: &[u8]) -> Option<VariableLine>
     ensures { result ≡ variable_told (variable_in s.now) }
 {
     if !starts(s, b"var=") {
-        return VariableLine::Other;
+        return None;
     }
     let end = end_at(s, 4, b' ');
     if s.len() <= end {
-        return VariableLine::Other;
+        return None;
     }
-    let next = end + 1;
-    let most = s.len();
-    let number = number_in(&s[next..most]);
-    match number {
-        Number::Is(sort) => VariableLine::Row {
-            name: end - 4,
-            sort,
-        },
-        Number::Other => VariableLine::Other,
-    }
+    let sort = number_in(&s[end + 1..])?;
+    Some(VariableLine {
+        name: end - 4,
+        sort,
+    })
 }
 
-pub fn function_in(s: &[u8]) -> FunctionLine
+pub fn function_in(s: &[u8]) -> Option<FunctionLine>
     ensures { result ≡ function_told (function_in s.now) }
 {
     if !starts(s, b"fun=") {
-        return FunctionLine::Other;
+        return None;
     }
     let end = end_at(s, 4, b' ');
     if s.len() <= end {
-        return FunctionLine::Other;
+        return None;
     }
-    let first = number_before(s, end + 1);
-    let Before::Is {
-        number: argument,
-        next,
-    } = first
-    else {
-        return FunctionLine::Other;
-    };
-    let most = s.len();
-    let second = number_in(&s[next..most]);
-    match second {
-        Number::Is(result) => FunctionLine::Row {
-            name: end - 4,
-            argument,
-            result,
-        },
-        Number::Other => FunctionLine::Other,
-    }
+    let first = number_before(s, end + 1)?;
+    let result = number_in(&s[first.next..])?;
+    Some(FunctionLine {
+        name: end - 4,
+        argument: first.number,
+        result,
+    })
 }
 
-pub fn member_in(s: &[u8]) -> MemberLine
+pub fn member_in(s: &[u8]) -> Option<MemberLine>
     ensures { result ≡ member_told (member_in s.now) }
 {
     if !starts(s, b"enum=") {
-        return MemberLine::Other;
+        return None;
     }
     let end = end_at(s, 5, b' ');
     if s.len() <= end {
-        return MemberLine::Other;
+        return None;
     }
-    let first = number_before(s, end + 1);
-    match first {
-        Before::Is { number, next } => MemberLine::Row {
-            name: end - 5,
-            entity: number,
-            text: s.len() - next,
-        },
-        Before::Other => MemberLine::Other,
-    }
+    let first = number_before(s, end + 1)?;
+    Some(MemberLine {
+        name: end - 5,
+        entity: first.number,
+        text: s.len() - first.next,
+    })
 }

@@ -4,7 +4,7 @@ ghost use Rattle.tables_text.specs.Parse.{numbered, named_form, numbered_form, f
 ghost use Rattle.tables_text.specs.Told.{form_told, FieldsPut, numbered_told};
 
 use crate::line::{end_at, starts};
-use crate::number::{Number, number_in};
+use crate::number::number_in;
 use arena::same;
 
 // The kind and the number of a sort without a name.
@@ -18,20 +18,18 @@ pub enum SortLine {
 
 // How long the name is, and how many fields follow it.
 #[derive(Clone, Copy)]
-pub enum RecordLine {
-    Row { name: usize, count: usize },
-    Other,
+pub struct RecordLine {
+    pub name: usize,
+    pub count: usize,
 }
 
 fn numbered_sort(kind: u64, s: &[u8], start: usize) -> SortLine
     requires { start ≤ length s.now }
     ensures { result ≡ numbered_told kind (drop start s.now) }
 {
-    let most = s.len();
-    let found = number_in(&s[start..most]);
-    match found {
-        Number::Is(number) => SortLine::Plain { kind, number },
-        Number::Other => SortLine::Other,
+    match number_in(&s[start..]) {
+        Some(number) => SortLine::Plain { kind, number },
+        None => SortLine::Other,
     }
 }
 
@@ -84,7 +82,7 @@ pub fn form_of(s: &[u8]) -> SortLine
 }
 
 // The fields of a record's line, put behind those that are there.
-pub fn record_in(s: &[u8], fields: &mut [u64], before: usize) -> RecordLine
+pub fn record_in(s: &[u8], fields: &mut [u64], before: usize) -> Option<RecordLine>
     requires { (12 ≤ length s.now) × (before * 2 + length s.now ≤ length fields.old * 2) }
     ensures { FieldsPut before (drop 12 s.now) fields.old fields.new result }
 {
@@ -94,16 +92,13 @@ pub fn record_in(s: &[u8], fields: &mut [u64], before: usize) -> RecordLine
     while at < s.len() {
         let from = at + 1;
         let end = end_at(s, from, b' ');
-        let found = number_in(&s[from..end]);
-        let Number::Is(number) = found else {
-            return RecordLine::Other;
-        };
+        let number = number_in(&s[from..end])?;
         fields[before + count] = number;
         count += 1;
         at = end;
     }
-    RecordLine::Row {
+    Some(RecordLine {
         name: first - 12,
         count,
-    }
+    })
 }

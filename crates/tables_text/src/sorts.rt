@@ -11,9 +11,9 @@ use crate::walk::{ROW_LIMIT, put_row};
 
 // Where the next line begins and how many fields there are now, or no line that is a sort's row.
 #[derive(Clone, Copy)]
-pub enum SortNext {
-    Next { at: usize, fields: usize },
-    Stop,
+pub struct SortNext {
+    pub at: usize,
+    pub fields: usize,
 }
 
 #[derive(Clone, Copy)]
@@ -32,14 +32,11 @@ fn record_line(
     row: usize,
     fields: &mut [u64],
     before: usize,
-) -> SortNext
+) -> Option<SortNext>
     requires { FineRecord text.now at end table.old row fields.old before }
     ensures { SortLined at row before (record_in (drop 12 (take (end - at) (drop at text.now)))) table.old table.new fields.old fields.new result }
 {
-    let found = record_in(&text[at..end], fields, before);
-    let RecordLine::Row { name, count } = found else {
-        return SortNext::Stop;
-    };
+    let RecordLine { name, count } = record_in(&text[at..end], fields, before)?;
     put_row(
         table,
         row,
@@ -49,10 +46,10 @@ fn record_line(
         before as u64,
         count as u64,
     );
-    SortNext::Next {
+    Some(SortNext {
         at: end + 1,
         fields: before + count,
-    }
+    })
 }
 
 fn sort_line(
@@ -62,22 +59,21 @@ fn sort_line(
     row: usize,
     fields: &mut [u64],
     before: usize,
-) -> SortNext
+) -> Option<SortNext>
     requires { FineSort text.now at table.old row fields.old before }
     ensures { SortLined at row before (line_row sort_in (drop at text.now)) table.old table.new fields.old fields.new result }
 {
     let end = end_at(text, at, b'\n');
     if text.len() <= end {
-        return SortNext::Stop;
+        return None;
     }
-    let found = form_of(&text[at..end]);
-    match found {
+    match form_of(&text[at..end]) {
         SortLine::Plain { kind, number } => {
             put_row(table, row, 0, 0, kind, number, 0);
-            SortNext::Next {
+            Some(SortNext {
                 at: end + 1,
                 fields: before,
-            }
+            })
         }
         SortLine::Entity => {
             put_row(
@@ -89,13 +85,13 @@ fn sort_line(
                 0,
                 0,
             );
-            SortNext::Next {
+            Some(SortNext {
                 at: end + 1,
                 fields: before,
-            }
+            })
         }
         SortLine::Record => record_line(text, at, end, table, row, fields, before),
-        SortLine::Other => SortNext::Stop,
+        SortLine::Other => None,
     }
 }
 
@@ -104,28 +100,21 @@ pub fn sort_rows(text: &[u8], table: &mut [u64], fields: &mut [u64]) -> SortWalk
     ensures { SortsWalked (walk sort_in row_limit text.now) table.new fields.new result }
 {
     let mut at = 0;
-    let mut row = 0;
     let mut count = 0;
-    while row < ROW_LIMIT {
-        let line = sort_line(text, at, table, row, fields, count);
-        let SortNext::Next {
-            at: next,
-            fields: more,
-        } = line
-        else {
+    for row in 0..ROW_LIMIT {
+        let Some(next) = sort_line(text, at, table, row, fields, count) else {
             return SortWalk {
                 at,
                 rows: row,
                 fields: count,
             };
         };
-        at = next;
-        count = more;
-        row += 1;
+        at = next.at;
+        count = next.fields;
     }
     SortWalk {
         at,
-        rows: row,
+        rows: ROW_LIMIT,
         fields: count,
     }
 }

@@ -14,13 +14,6 @@ use tables::STRIDE;
 
 pub const ROW_LIMIT: usize = 1024;
 
-// Where the next line begins, or no line that is a row.
-#[derive(Clone, Copy)]
-pub enum Line {
-    Next(usize),
-    Stop,
-}
-
 // Where the rows of a kind end, and how many they are.
 #[derive(Clone, Copy)]
 pub struct Walk {
@@ -40,56 +33,50 @@ pub fn put_row(table: &mut [u64], row: usize, a: u64, b: u64, c: u64, d: u64, e:
     table[first + 4] = e;
 }
 
-fn variable_line(text: &[u8], at: usize, table: &mut [u64], row: usize) -> Line
+fn variable_line(text: &[u8], at: usize, table: &mut [u64], row: usize) -> Option<usize>
     requires { (at ≤ length text.now) × (row * stride + stride ≤ length table.old) }
     ensures { Lined variable_line variable_words at row (line_row variable_in (drop at text.now)) table.old table.new result }
 {
     let end = end_at(text, at, b'\n');
     if text.len() <= end {
-        return Line::Stop;
+        return None;
     }
-    let found = variable_in(&text[at..end]);
-    let VariableLine::Row { name, sort } = found else {
-        return Line::Stop;
-    };
+    let VariableLine { name, sort } = variable_in(&text[at..end])?;
     put_row(table, row, (at + 4) as u64, name as u64, sort, 0, 0);
-    Line::Next(end + 1)
+    Some(end + 1)
 }
 
+// Stays: one walk for all kinds has a contract over the row's type, reader, writer, words and two laws: longer than three loops.
 pub fn variable_rows(text: &[u8], start: usize, table: &mut [u64]) -> Walk
     requires { (start ≤ length text.now) × (row_limit * stride ≤ length table.old) }
     ensures { WalkedTo variable_line variable_words start (walk variable_in row_limit (drop start text.now)) table.new result }
 {
     let mut at = start;
-    let mut row = 0;
-    while row < ROW_LIMIT {
-        let line = variable_line(text, at, table, row);
-        let Line::Next(next) = line else {
+    for row in 0..ROW_LIMIT {
+        let Some(next) = variable_line(text, at, table, row) else {
             return Walk { at, rows: row };
         };
         at = next;
-        row += 1;
     }
-    Walk { at, rows: row }
+    Walk {
+        at,
+        rows: ROW_LIMIT,
+    }
 }
 
-fn function_line(text: &[u8], at: usize, table: &mut [u64], row: usize) -> Line
+fn function_line(text: &[u8], at: usize, table: &mut [u64], row: usize) -> Option<usize>
     requires { (at ≤ length text.now) × (row * stride + stride ≤ length table.old) }
     ensures { Lined function_line function_words at row (line_row function_in (drop at text.now)) table.old table.new result }
 {
     let end = end_at(text, at, b'\n');
     if text.len() <= end {
-        return Line::Stop;
+        return None;
     }
-    let found = function_in(&text[at..end]);
-    let FunctionLine::Row {
+    let FunctionLine {
         name,
         argument,
         result,
-    } = found
-    else {
-        return Line::Stop;
-    };
+    } = function_in(&text[at..end])?;
     put_row(
         table,
         row,
@@ -99,7 +86,7 @@ fn function_line(text: &[u8], at: usize, table: &mut [u64], row: usize) -> Line
         result,
         0,
     );
-    Line::Next(end + 1)
+    Some(end + 1)
 }
 
 pub fn function_rows(text: &[u8], start: usize, table: &mut [u64]) -> Walk
@@ -107,35 +94,31 @@ pub fn function_rows(text: &[u8], start: usize, table: &mut [u64]) -> Walk
     ensures { WalkedTo function_line function_words start (walk function_in row_limit (drop start text.now)) table.new result }
 {
     let mut at = start;
-    let mut row = 0;
-    while row < ROW_LIMIT {
-        let line = function_line(text, at, table, row);
-        let Line::Next(next) = line else {
+    for row in 0..ROW_LIMIT {
+        let Some(next) = function_line(text, at, table, row) else {
             return Walk { at, rows: row };
         };
         at = next;
-        row += 1;
     }
-    Walk { at, rows: row }
+    Walk {
+        at,
+        rows: ROW_LIMIT,
+    }
 }
 
-fn member_line(text: &[u8], at: usize, table: &mut [u64], row: usize) -> Line
+fn member_line(text: &[u8], at: usize, table: &mut [u64], row: usize) -> Option<usize>
     requires { (at ≤ length text.now) × (row * stride + stride ≤ length table.old) }
     ensures { Lined member_line member_words at row (line_row member_in (drop at text.now)) table.old table.new result }
 {
     let end = end_at(text, at, b'\n');
     if text.len() <= end {
-        return Line::Stop;
+        return None;
     }
-    let found = member_in(&text[at..end]);
-    let MemberLine::Row {
+    let MemberLine {
         name,
         entity,
         text: size,
-    } = found
-    else {
-        return Line::Stop;
-    };
+    } = member_in(&text[at..end])?;
     put_row(
         table,
         row,
@@ -145,7 +128,7 @@ fn member_line(text: &[u8], at: usize, table: &mut [u64], row: usize) -> Line
         (end - size) as u64,
         size as u64,
     );
-    Line::Next(end + 1)
+    Some(end + 1)
 }
 
 pub fn member_rows(text: &[u8], start: usize, table: &mut [u64]) -> Walk
@@ -153,14 +136,14 @@ pub fn member_rows(text: &[u8], start: usize, table: &mut [u64]) -> Walk
     ensures { WalkedTo member_line member_words start (walk member_in row_limit (drop start text.now)) table.new result }
 {
     let mut at = start;
-    let mut row = 0;
-    while row < ROW_LIMIT {
-        let line = member_line(text, at, table, row);
-        let Line::Next(next) = line else {
+    for row in 0..ROW_LIMIT {
+        let Some(next) = member_line(text, at, table, row) else {
             return Walk { at, rows: row };
         };
         at = next;
-        row += 1;
     }
-    Walk { at, rows: row }
+    Walk {
+        at,
+        rows: ROW_LIMIT,
+    }
 }

@@ -1,9 +1,9 @@
 -- Forms with digits, beside the longest run of digits that `strings` looks at.
 -- Assumes nothing.
+use Rattle.std.proofs.Common.{None, Option, Some}
 use mathlib.Core.Path.{◌≡◌, refl, ap, ◌∙◌}
 use mathlib.Core.Bool.{Bool, true, false, cond, ◌&&◌}
 use mathlib.Core.List.{List, [], ◌∷◌, ◌++◌}
-use mathlib.Core.Option.{Option, none, some}
 use Prim.Native.Nat.{ℕ, zero, suc, ◌+◌, ◌*◌, ◌≤◌, ◌<◌}
 use native.Mathlib.Omega.{arith}
 use lib.Dec.{leb, eqb, lit<, lit≤, eqb-zero-suc, eqb-suc-zero, eqb-suc-suc}
@@ -21,7 +21,7 @@ one-digit : (f : List Place) (n b : ℕ) (bs : List ℕ) → worth b < 16 → nu
 unfolding number_by
 one-digit f n b bs h = rw (is-hex b h, hex-worth b h, le-leb (worth b) 15 (omega arith))
 
-no_digit : (m : ℕ) (f : List Place) (n b : ℕ) (bs : List ℕ) → 16 ≤ worth b → number_by (digit m ∷ f) n (b ∷ bs) ≡ none
+no_digit : (m : ℕ) (f : List Place) (n b : ℕ) (bs : List ℕ) → 16 ≤ worth b → number_by (digit m ∷ f) n (b ∷ bs) ≡ None
 unfolding number_by
 no_digit m f n b bs h = rw (no-hex b h)
 
@@ -31,7 +31,7 @@ brace-worth = refl
 
 -- n digits
 pub all_digits : (n v : ℕ) (s : List ℕ)
-    → number_by (replicate n d) v s ≡ cond (eqb (length (hex_run (take n s))) n) (some (from 16 v (take n s))) none
+    → number_by (replicate n d) v s ≡ cond (eqb (length (hex_run (take n s))) n) (Some (from 16 v (take n s))) None
 unfolding number_by hex_run from
 all_digits zero v [] = refl
 all_digits zero v (b ∷ bs) = refl
@@ -47,7 +47,7 @@ digits_closed n = replicate n d ++ (closing ∷ [])
 
 -- what that form finds in a run of so many digits, which stands for v, with a brace behind it or not
 abbrev pub found : Bool → ℕ → ℕ → ℕ → Option ℕ
-found shut long v n = cond (shut && eqb long n) (some v) none
+found shut long v n = cond (shut && eqb long n) (Some v) None
 
 abbrev pub shut_run : List ℕ → Bool
 shut_run s = starts_by 0x7D (drop (length (hex_run s)) s)
@@ -63,7 +63,7 @@ closed-digits zero v (b ∷ bs) =
     rw (ne_eqb b 0x7D other, lt-ltb (worth b) 16 h, eqb-suc-zero (length (hex_run bs)), and-false))
     (λ h. rw (le-ltb (worth b) 16 h) (go (eqb b 0x7D)))
   where
-    go : (t : Bool) → cond t (some v) none ≡ cond (t && true) (some v) none
+    go : (t : Bool) → cond t (Some v) None ≡ cond (t && true) (Some v) None
     go true = refl
     go false = refl
 closed-digits (suc n) v (b ∷ bs) =
@@ -73,16 +73,16 @@ closed-digits (suc n) v (b ∷ bs) =
 
 -- a number, where it is one of the theory's characters
 abbrev pub character : Option ℕ → Option ℕ
-character none = none
-character (some x) = cond (leb x 0x2FFFF) (some x) none
+character None = None
+character (Some x) = cond (leb x 0x2FFFF) (Some x) None
 
-kept : (o : Option ℕ) → ((x : ℕ) → o ≡ some x → x ≤ 0x2FFFF) → o ≡ character o
-kept none f = refl
-kept (some x) f = rw (le-leb x 0x2FFFF (f x refl))
+kept : (o : Option ℕ) → ((x : ℕ) → o ≡ Some x → x ≤ 0x2FFFF) → o ≡ character o
+kept None f = refl
+kept (Some x) f = rw (le-leb x 0x2FFFF (f x refl))
 
-dropped : (o : Option ℕ) → ((x : ℕ) → o ≡ some x → 0x2FFFF < x) → none ≡ character o
-dropped none f = refl
-dropped (some x) f = rw (lt-leb x 0x2FFFF (f x refl))
+dropped : (o : Option ℕ) → ((x : ℕ) → o ≡ Some x → 0x2FFFF < x) → None ≡ character o
+dropped None f = refl
+dropped (Some x) f = rw (lt-leb x 0x2FFFF (f x refl))
 
 few-digits : (n high : ℕ) → most (digits_closed n) high ≤ 0x2FFFF → (v : ℕ) (s : List ℕ) → v ≤ high
     → number_by (digits_closed n) v s ≡ character (number_by (digits_closed n) v s)

@@ -3,26 +3,27 @@
 use mathlib.Core.Path.{◌≡◌, refl}
 use mathlib.Core.Bool.{Bool, true, false, cond, ◌&&◌}
 use mathlib.Core.List.{List, [], ◌∷◌}
-use mathlib.Core.Option.{Option, none, some, none-ne-some}
+use Rattle.std.proofs.Common.{Option, None, Some}
+use Rattle.ground.proofs.Options.{none-not-some}
 use Prim.Native.Nat.{ℕ, ◌-◌}
 use lib.ListN.{length}
 use Rattle.theory.specs.Theory.{Place, number_by, Spelled, or_else, spelled_by}
 
-pub taken : (t : Bool) (o : Option ℕ) (x : ℕ) → cond t o none ≡ some x → (t ≡ true) × (o ≡ some x)
+pub taken : (t : Bool) (o : Option ℕ) (x : ℕ) → cond t o None ≡ Some x → (t ≡ true) × (o ≡ Some x)
 taken true o x e = (refl, e)
-taken false o x e = absurd (none-ne-some x e)
+taken false o x e = absurd (none-not-some e)
 
 -- the bytes start with the first form, or the other forms decide
 pub by_form : (P : Spelled → Type 0) (f : List Place) (fs : List (List Place)) (b : ℕ) (bs : List ℕ)
-    → ((x : ℕ) → number_by f 0 (b ∷ bs) ≡ some x → P (record { character = x; more = length f - 1 }))
-    → (number_by f 0 (b ∷ bs) ≡ none → P (spelled_by fs b bs))
+    → ((x : ℕ) → number_by f 0 (b ∷ bs) ≡ Some x → P (record { character = x; more = length f - 1 }))
+    → (number_by f 0 (b ∷ bs) ≡ None → P (spelled_by fs b bs))
     → P (spelled_by (f ∷ fs) b bs)
 unfolding spelled_by
 by_form P f fs b bs first other = go (number_by f 0 (b ∷ bs)) refl
   where
     go : (o : Option ℕ) → number_by f 0 (b ∷ bs) ≡ o → P (or_else o (length f - 1) (spelled_by fs b bs))
-    go (some x) e = first x e
-    go none e = other e
+    go (Some x) e = first x e
+    go None e = other e
 
 abbrev pub all : (List Place → Bool) → List (List Place) → Bool
 all test [] = true

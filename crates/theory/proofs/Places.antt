@@ -1,9 +1,9 @@
 -- One place of a string: the theory's forms with the form of six digits say what `strings` says.
 -- Assumes nothing.
+use Rattle.std.proofs.Common.{None, Option, Some}
 use mathlib.Core.Path.{◌≡◌, refl, sym, ◌∙◌, subst}
 use mathlib.Core.Bool.{Bool, true, false, cond, ◌&&◌}
 use mathlib.Core.List.{List, [], ◌∷◌}
-use mathlib.Core.Option.{Option, none, some}
 use Prim.Native.Nat.{ℕ, zero, suc, ◌≤◌, ◌<◌}
 use native.Mathlib.Omega.{arith}
 use lib.Dec.{leb, eqb, lit≤}
@@ -11,8 +11,6 @@ use lib.ListN.{length, take}
 use borrow.Author.Tests.{lt-leb, ne_eqb, eqb-true}
 use Rattle.ground.proofs.Tests.{by_test, and-false}
 use Rattle.words.specs.Run.{from}
-use Rattle.strings.specs.declared.escape.Braced.TheVariants.{Closed, Failed}
-use Rattle.strings.specs.declared.escape.Escape.TheVariants.{Point, Plain}
 use Rattle.strings.specs.declared.character.Character.{Character}
 use Rattle.strings.specs.Escape.{hex_run, braced, braced_escape, four_digits, after_u, escape, closed}
 use Rattle.strings.specs.Points.{escaped, character_at}
@@ -31,7 +29,7 @@ abbrev itself : ℕ → Spelled
 itself b = record { character = b; more = 0 }
 
 -- one form in question
-choice : (t : Bool) (v n : ℕ) → as_character (or_else (cond t (some v) none) n (itself 0x5C)) ≡ escaped (cond t (Point v n) Plain)
+choice : (t : Bool) (v n : ℕ) → as_character (or_else (cond t (Some v) None) n (itself 0x5C)) ≡ escaped (cond t (Some (record { value = v; bytes = n })) None)
 choice true v n = refl
 choice false v n = refl
 
@@ -41,7 +39,7 @@ chain f = or_else (f 6) 9 (or_else (f 1) 4 (or_else (f 2) 5 (or_else (f 3) 6 (or
 
 abbrev Settled : Bool → ℕ → ℕ → Type 0
 Settled shut long v =
-    as_character (chain (λ n. character (found shut long v n))) ≡ escaped (closed (cond (leb long 6 && shut) (Closed v long) Failed))
+    as_character (chain (λ n. character (found shut long v n))) ≡ escaped (closed (cond (leb long 6 && shut) (Some (record { value = v; digits = long })) None))
 
 long-run : (long v : ℕ) → 6 < long → Settled true long v
 long-run long v h =

@@ -1,9 +1,9 @@
 -- No escape takes a quote, so look-ahead by a form does not see whether quotes are doubled.
 -- Assumes nothing.
+use Rattle.std.proofs.Common.{None, Option, Some}
 use mathlib.Core.Path.{◌≡◌, refl, sym, ap, ◌∙◌}
 use mathlib.Core.Bool.{Bool, true, false, cond, not, ◌&&◌, true≢false}
 use mathlib.Core.List.{List, [], ◌∷◌}
-use mathlib.Core.Option.{Option, none, some}
 use Prim.Native.Nat.{ℕ, zero, suc, ◌-◌}
 use native.Mathlib.Omega.{arith}
 use lib.Dec.{eqb}
@@ -37,7 +37,7 @@ same_number [] q l n = refl
 same_number (p ∷ ps) q empty n = refl
 same_number (p ∷ ps) q (doubled l) n = rw (no-quote p ps q)
 same_number (p ∷ ps) q (byte {b} h k l) n =
-    rw k (ap (λ (o : Option ℕ). cond (fits p b) o none) (same_number ps (others p ps q) l (grown n p b)))
+    rw k (ap (λ (o : Option ℕ). cond (fits p b) o None) (same_number ps (others p ps q) l (grown n p b)))
 
 -- no quote is among the first k bytes
 abbrev pub Clear : ℕ → List ℕ → Type 0
@@ -49,7 +49,7 @@ pub clear_none : (s : List ℕ) → Clear 0 s
 clear_none [] = tt
 clear_none (b ∷ bs) = tt
 
-clear : (f : List Place) (n : ℕ) (s : List ℕ) (x : ℕ) → quoteless f ≡ true → number_by f n s ≡ some x → Clear (length f) s
+clear : (f : List Place) (n : ℕ) (s : List ℕ) (x : ℕ) → quoteless f ≡ true → number_by f n s ≡ Some x → Clear (length f) s
 unfolding number_by
 clear [] n s x q e = clear_none s
 clear (p ∷ ps) n [] x q e = tt

@@ -3,7 +3,8 @@
 use mathlib.Core.Path.{◌≡◌, refl, sym, ◌∙◌}
 use mathlib.Core.Bool.{Bool, true, false, not, ◌&&◌, ◌||◌}
 use mathlib.Core.List.{List, [], ◌∷◌}
-use mathlib.Core.Option.{some, none-ne-some}
+use Rattle.std.proofs.Common.{Some}
+use Rattle.ground.proofs.Options.{none-not-some}
 use Prim.Native.Nat.{ℕ, zero, suc, ◌+◌, ◌*◌, ◌≤◌}
 use native.Mathlib.Omega.{arith}
 use lib.Dec.{leb, eqb}
@@ -28,11 +29,11 @@ most [] n = n
 most (only x ∷ ps) n = most ps n
 most (digit m ∷ ps) n = most ps (n * 16 + m)
 
-pub bounds : (f : List Place) (low n high : ℕ) (s : List ℕ) (x : ℕ) → low ≤ n → n ≤ high → number_by f n s ≡ some x
+pub bounds : (f : List Place) (low n high : ℕ) (s : List ℕ) (x : ℕ) → low ≤ n → n ≤ high → number_by f n s ≡ Some x
     → (least f low ≤ x) × (x ≤ most f high)
 unfolding number_by
 bounds [] low n high s x l h e = let k : n ≡ x = cc in (omega arith, omega arith)
-bounds (p ∷ ps) low n high [] x l h e = absurd (none-ne-some x e)
+bounds (p ∷ ps) low n high [] x l h e = absurd (none-not-some e)
 bounds (only a ∷ ps) low n high (b ∷ bs) x l h e = bounds ps low n high bs x l h (taken (eqb b a) _ x e).1
 bounds (digit m ∷ ps) low n high (b ∷ bs) x l h e =
     let t = taken (is_hex b && leb (hex_value b) m) _ x e in

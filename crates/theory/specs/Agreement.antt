@@ -1,6 +1,5 @@
 -- Document 01, "Bytes to tokens", `\u`, beside Unicode Strings: where `strings` departs from the theory, and that it agrees elsewhere.
-use Rattle.std.specs.Prelude.{◌≡◌, Bool, true, false, not, ◌&&◌, List, [], ◌∷◌, ℕ}
-use Rattle.std.proofs.Math.Option.{Option, none, some}
+use Rattle.std.specs.Prelude.{◌≡◌, Bool, true, false, not, ◌&&◌, List, [], ◌∷◌, ℕ, None, Option, Some}
 use Rattle.strings.specs.Points.{points}
 use Rattle.strings.specs.Text.{encodings, text, any_surrogate}
 use Rattle.theory.specs.Literal.{within, unquoted}
@@ -11,8 +10,8 @@ abbrev pub six_digits : List Place
 six_digits = backslash ∷ u ∷ opening ∷ digit 0 ∷ d₄ ∷ d ∷ d ∷ d ∷ d ∷ closing ∷ []
 
 abbrev pub absent : Option ℕ → Bool
-absent none = true
-absent (some n) = false
+absent None = true
+absent (Some n) = false
 
 unfoldable pub nowhere : List Place → List ℕ → Bool
 nowhere f [] = true

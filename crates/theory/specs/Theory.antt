@@ -1,6 +1,5 @@
 -- Unicode Strings, string literals: the characters that the unquoted bytes stand for, by the theory's six forms of an escape.
-use Rattle.std.specs.Prelude.{Bool, cond, ◌&&◌, ◌||◌, List, [], ◌∷◌, ℕ, zero, suc, ◌+◌, ◌-◌, ◌*◌, leb, eqb, length}
-use Rattle.std.proofs.Math.Option.{Option, none, some}
+use Rattle.std.specs.Prelude.{Bool, cond, ◌&&◌, ◌||◌, List, [], ◌∷◌, ℕ, zero, suc, ◌+◌, ◌-◌, ◌*◌, leb, eqb, length, None, Option, Some}
 use Rattle.theory.specs.Literal.{within}
 
 -- `0` to `9`, `A` to `F` and `a` to `f`
@@ -58,9 +57,9 @@ grown n (digit most) b = n * 16 + hex_value b
 
 -- where the bytes start with the form, the number of its digits, written after those of n
 unfoldable pub number_by : List Place → ℕ → List ℕ → Option ℕ
-number_by [] n s = some n
-number_by (p ∷ ps) n [] = none
-number_by (p ∷ ps) n (b ∷ bs) = cond (fits p b) (number_by ps (grown n p b) bs) none
+number_by [] n s = Some n
+number_by (p ∷ ps) n [] = None
+number_by (p ∷ ps) n (b ∷ bs) = cond (fits p b) (number_by ps (grown n p b) bs) None
 
 -- a character, and how many bytes past the first stand for it
 pub record Spelled : Type 0 where
@@ -68,8 +67,8 @@ pub record Spelled : Type 0 where
   pub more : ℕ
 
 abbrev pub or_else : Option ℕ → ℕ → Spelled → Spelled
-or_else (some n) more other = record { character = n; more = more }
-or_else none more other = other
+or_else (Some n) more other = record { character = n; more = more }
+or_else None more other = other
 
 -- by the first form that the bytes start with; where there is none the byte, a backslash too, stands for itself
 unfoldable pub spelled_by : List (List Place) → ℕ → List ℕ → Spelled

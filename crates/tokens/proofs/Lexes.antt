@@ -1,5 +1,6 @@
 -- The tokens from a place on; and how much text one piece brings.
 -- Assumes nothing.
+use Rattle.std.proofs.Common.{Err, Ok, Result}
 use mathlib.Core.Path.{◌≡◌, refl, sym, ap, ◌∙◌, subst}
 use mathlib.Core.Bool.{Bool, true, false, cond}
 use mathlib.Core.List.{List, [], ◌∷◌}
@@ -9,8 +10,6 @@ use lib.ListN.{length, get_or, take, drop, length-drop}
 use lib.Seq.{drop-drop}
 use Rattle.ground.proofs.Lists.{at_place}
 use Rattle.words.specs.declared.digits.Radix.TheVariants.{Decimal}
-use Rattle.words.specs.declared.digits.Parsed.{Parsed}
-use Rattle.words.specs.declared.digits.Parsed.TheVariants.{Number, Refused}
 use Rattle.words.specs.Run.{parsed}
 use Rattle.utf8.specs.Octets.{utf8}
 use Rattle.strings.specs.Points.{points}
@@ -25,6 +24,8 @@ use Rattle.tokens.specs.declared.lexeme.Lexeme.{Lexeme}
 use Rattle.tokens.specs.Lexeme.{lexeme_at}
 use Rattle.tokens.specs.Piece.{Piece, space, token, wrong, from_parsed, bits_of, piece_of, piece_at, ok, more, emit, lex_after, lex}
 use Rattle.tokens.proofs.Reaches.{Reach, reach}
+use Rattle.refusals.specs.declared.Refusal.{Refusal}
+use Rattle.words.specs.declared.pair.Pair.{Pair}
 
 lex_skip : (k : ℕ) (s : List ℕ) → lex_after k s ≡ lex (drop k s)
 unfolding lex_after
@@ -91,9 +92,9 @@ text_size (token closes) = 0
 text_size (token (atom a)) = length (atom_text a)
 text_size (wrong why) = 0
 
-parsed-small : (p : Parsed) (make : ℕ → Atom) → ((n : ℕ) → length (atom_text (make n)) ≡ 0) → text_size (from_parsed p make) ≡ 0
-parsed-small (Number p) make h = h _
-parsed-small (Refused why) make h = refl
+parsed-small : (p : Result Pair Refusal) (make : ℕ → Atom) → ((n : ℕ) → length (atom_text (make n)) ≡ 0) → text_size (from_parsed p make) ≡ 0
+parsed-small (Ok p) make h = h _
+parsed-small (Err why) make h = refl
 
 cond_small : (t : Bool) (x y : Piece) (n : ℕ) → text_size x ≤ n → text_size y ≤ n → text_size (cond t x y) ≤ n
 cond_small true x y n h k = h

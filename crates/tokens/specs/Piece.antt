@@ -1,11 +1,9 @@
 -- Document 01, "Bytes to tokens" and "Numbers given back": the tokens of the input, or the first lexical fault from the left.
-use Rattle.std.specs.Prelude.{cond, List, [], ◌∷◌, ℕ, zero, suc, ◌-◌, ◌*◌, length, take, drop}
+use Rattle.std.specs.Prelude.{cond, List, [], ◌∷◌, ℕ, zero, suc, ◌-◌, ◌*◌, length, take, drop, Err, Ok, Result}
 use Rattle.refusals.specs.declared.Refusal.{Refusal}
 use Rattle.refusals.specs.declared.Refusal.TheVariants.{UnexpectedEnd, Utf8Error, StringParseError}
 use Rattle.words.specs.declared.digits.Radix.{Radix}
 use Rattle.words.specs.declared.digits.Radix.TheVariants.{Binary, Decimal, Hexadecimal}
-use Rattle.words.specs.declared.digits.Parsed.{Parsed}
-use Rattle.words.specs.declared.digits.Parsed.TheVariants.{Number, Refused}
 use Rattle.words.specs.Pair.{value}
 use Rattle.words.specs.Run.{parsed}
 use Rattle.words.specs.Extension.{extended}
@@ -13,11 +11,10 @@ use Rattle.utf8.specs.Octets.{utf8}
 use Rattle.strings.specs.Points.{points}
 use Rattle.strings.specs.Text.{text, any_surrogate}
 use Rattle.brackets.specs.Token.{Atom, bits, number, quoted, name, Token, opens, closes, atom, atom_text}
-use Rattle.tokens.specs.declared.atom.Sized.{Sized}
-use Rattle.tokens.specs.declared.atom.Sized.TheVariants.{Text, Fault}
 use Rattle.tokens.specs.declared.lexeme.Kind.{Kind}
 use Rattle.tokens.specs.declared.lexeme.Kind.TheVariants as K
 use Rattle.tokens.specs.Lexeme.{lexeme_at}
+use Rattle.words.specs.declared.pair.Pair.{Pair}
 
 -- white space or a comment; a token; a lexical fault
 pub data Piece : Type 0 where
@@ -25,9 +22,9 @@ pub data Piece : Type 0 where
   token : Token → Piece
   wrong : Refusal → Piece
 
-abbrev pub from_parsed : Parsed → (ℕ → Atom) → Piece
-from_parsed (Number p) make = token (atom (make (value p)))
-from_parsed (Refused why) make = wrong why
+abbrev pub from_parsed : Result Pair Refusal → (ℕ → Atom) → Piece
+from_parsed (Ok p) make = token (atom (make (value p)))
+from_parsed (Err why) make = wrong why
 
 -- how many bits a digit stands for
 abbrev pub bits_of : Radix → ℕ
@@ -51,26 +48,26 @@ unfoldable pub piece_at : List ℕ → Piece
 piece_at s = piece_of (lexeme_at s).kind (take (lexeme_at s).size (drop (lexeme_at s).skip s))
 
 -- how many bytes of text a piece brings, or its fault
-abbrev pub sized_token : Token → Sized
-sized_token opens = Text 0
-sized_token closes = Text 0
-sized_token (atom a) = Text (length (atom_text a))
+abbrev pub sized_token : Token → Result ℕ Refusal
+sized_token opens = Ok 0
+sized_token closes = Ok 0
+sized_token (atom a) = Ok (length (atom_text a))
 
-abbrev pub sized_of : Piece → Sized
-sized_of space = Text 0
+abbrev pub sized_of : Piece → Result ℕ Refusal
+sized_of space = Ok 0
 sized_of (token x) = sized_token x
-sized_of (wrong why) = Fault why
+sized_of (wrong why) = Err why
 
 -- the same of a number, a string and a name
-abbrev pub sized_number : Parsed → Sized
-sized_number (Number p) = Text 0
-sized_number (Refused why) = Fault why
+abbrev pub sized_number : Result Pair Refusal → Result ℕ Refusal
+sized_number (Ok p) = Ok 0
+sized_number (Err why) = Err why
 
-abbrev pub sized_string : List ℕ → Sized
-sized_string x = cond (any_surrogate (points x)) (Fault StringParseError) (Text (length (text x)))
+abbrev pub sized_string : List ℕ → Result ℕ Refusal
+sized_string x = cond (any_surrogate (points x)) (Err StringParseError) (Ok (length (text x)))
 
-abbrev pub sized_name : List ℕ → Sized
-sized_name x = cond (utf8 x) (Text (length x)) (Fault Utf8Error)
+abbrev pub sized_name : List ℕ → Result ℕ Refusal
+sized_name x = cond (utf8 x) (Ok (length x)) (Err Utf8Error)
 
 pub data Lexed : Type 0 where
   ok : List Token → Lexed

@@ -8,6 +8,7 @@ pub fn past_blanks(table: &[u8; 256], s: &[u8], start: usize) -> usize
     requires { table.now ≡ classes }
     ensures { result ≡ start + blank_span (drop start s.now) }
 {
+    // Stays: the start may lie past the end, and is then the answer; behind a `for` that would take `s.len().max(start)`.
     let mut at = start;
     while at < s.len() {
         let class = lexicon::class_of(table, s[at]);

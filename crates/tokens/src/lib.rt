@@ -5,6 +5,6 @@ mod atom;
 mod blanks;
 mod lexeme;
 
-pub use atom::{Sized, atom_size};
+pub use atom::atom_size;
 pub use blanks::past_blanks;
 pub use lexeme::{Kind, Lexeme, lexeme_at};

@@ -1,5 +1,6 @@
 -- What an answer tells, and what can be read back of it.
 -- Assumes nothing.
+use Rattle.std.proofs.Common.{None, Option, Some}
 use mathlib.Core.Path.{◌≡◌, refl, ap, ◌∙◌}
 use mathlib.Core.List.{List}
 use Prim.Native.Nat.{ℕ, ◌%◌, ◌<◌}
@@ -7,24 +8,16 @@ use native.Mathlib.Omega.{arith}
 use Rattle.refusals.specs.declared.Refusal.{Refusal}
 use Rattle.refusals.specs.Number.{number_of}
 use Rattle.lent.specs.Left.{onto}
-use Rattle.tables.specs.declared.find.Found.{Found}
-use Rattle.told.specs.Code.{code_of}
 use Rattle.told.specs.Tells.{Yield, yields, refuses, Tells}
 use Rattle.told.specs.Yields.{found_row}
 use Rattle.told.proofs.Codes.{code-some, code-number}
 
-pub tells-numbers : (yield : Yield) (ns told exit : List ℕ) → yield ≡ yields ns → exit ≡ onto ns told → Tells yield told 0 exit
-tells-numbers yield ns told exit e f = rw e (record { word = refl; tells = f })
-
-pub tells_why : (yield : Yield) (why : Refusal) (told : List ℕ) (r : ℕ) → yield ≡ refuses why → r ≡ code_of why → Tells yield told r told
-tells_why yield why told r e f = rw e (record { word = f; tells = refl })
-
 -- the numbers of a lookup tell a row from another, and from none
-pub row_told : (a b : Found) → found_row a ≡ found_row b → a ≡ b
-row_told (Found.Row i) (Found.Row j) e = let q : i ≡ j = cc in ap Found.Row q
-row_told (Found.Row i) Found.NoRow e = let z : ◌≡◌ {A = ℕ} 1 0 = cc in absurd (omega arith)
-row_told Found.NoRow (Found.Row j) e = let z : ◌≡◌ {A = ℕ} 0 1 = cc in absurd (omega arith)
-row_told Found.NoRow Found.NoRow e = refl
+pub row_told : (a b : Option ℕ) → found_row a ≡ found_row b → a ≡ b
+row_told (Some i) (Some j) e = let q : i ≡ j = cc in ap Some q
+row_told (Some i) None e = let z : ◌≡◌ {A = ℕ} 1 0 = cc in absurd (omega arith)
+row_told None (Some j) e = let z : ◌≡◌ {A = ℕ} 0 1 = cc in absurd (omega arith)
+row_told None None e = refl
 
 -- what a caller sees: 0 tells an acceptance and its numbers, and any other word a refusal by its number, with nothing told
 pub tells-accepted : (yield : Yield) (told exit : List ℕ) → Tells yield told 0 exit → (ns : List ℕ) × (yield ≡ yields ns) × (exit ≡ onto ns told)

@@ -6,10 +6,11 @@ mod shows;
 ghost use Rattle.std.specs.Prelude.{◌≡◌, length};
 ghost use Rattle.reader.specs.Program.{program_words};
 
-use reader::{PROGRAM_WORDS, Reading};
+use reader::PROGRAM_WORDS;
 use refusals::Refusal;
 use replay::INPUT;
 
+// Stays: arrays of a fixed length, since a program has fixed memory and no heap.
 fn main() {
     let mut input = io::large_buffer();
     let mut nodes = node_words();
@@ -31,15 +32,9 @@ fn list(input: &mut [u8], nodes: &mut [u64], text: &mut [u8], stack: &mut [u64],
     if more_follows() {
         return shows::refusal(Refusal::InputTooLong, line);
     }
-    let zero = 0;
-    let answer = reader::parse_sexpr(&input[zero..got], nodes, text, stack);
-    match answer {
-        Reading::Read {
-            nodes: count,
-            text: size,
-            depth,
-        } => shows::tree(count, size, depth, nodes, text, line),
-        Reading::Refused(why) => shows::refusal(why, line),
+    match reader::parse_sexpr(&input[..got], nodes, text, stack) {
+        Ok(found) => shows::tree(found, nodes, text, line),
+        Err(why) => shows::refusal(why, line),
     }
 }
 

@@ -1,8 +1,9 @@
 // An answer, as lines on standard output; they are gathered in a lent buffer and written when it is nearly full.
-ghost use Rattle.std.specs.Prelude.{◌≤◌, length};
+ghost use Rattle.std.specs.Prelude.{length};
 ghost use Rattle.replay.specs.Places.{Onward};
 
 use arena::STRIDE;
+use reader::Reading;
 use refusals::Refusal;
 use replay::OUTPUT;
 
@@ -18,44 +19,35 @@ fn put_line(name: &[u8], number: usize, line: &mut [u8], start: usize) -> usize
 }
 
 pub fn refusal(why: Refusal, line: &mut [u8]) {
-    let number = why.number() as usize;
-    let detail = why.detail();
-    let first = put_line(b"refused=", number, line, 0);
-    let end = put_line(b"detail=", detail, line, first);
+    let first = put_line(b"refused=", why.number() as usize, line, 0);
+    let end = put_line(b"detail=", why.detail(), line, first);
     replay::flush(line, end);
 }
 
 // The needs, the nodes and the text of a tree that was read.
-pub fn tree(count: usize, size: usize, depth: usize, nodes: &[u64], text: &[u8], line: &mut [u8]) {
-    if nodes.len() / STRIDE < count {
+pub fn tree(found: Reading, nodes: &[u64], text: &[u8], line: &mut [u8]) {
+    if nodes.len() / STRIDE < found.nodes || text.len() < found.text {
         return;
     }
-    if text.len() < size {
-        return;
-    }
-    let zero = 0;
-    let words = count * STRIDE;
-    needs(count, size, depth, line);
-    list_nodes(&nodes[zero..words], line);
-    replay::write_hex(&text[zero..size], line);
+    needs(found, line);
+    list_nodes(&nodes[..found.nodes * STRIDE], line);
+    replay::write_hex(&text[..found.text], line);
     io::write_all(OUTPUT, b"\n");
 }
 
-fn needs(count: usize, size: usize, depth: usize, line: &mut [u8]) {
-    let first = put_line(b"nodes=", count, line, 0);
-    let second = put_line(b"text=", size, line, first);
-    let end = put_line(b"depth=", depth, line, second);
+fn needs(found: Reading, line: &mut [u8]) {
+    let first = put_line(b"nodes=", found.nodes, line, 0);
+    let second = put_line(b"text=", found.text, line, first);
+    let end = put_line(b"depth=", found.depth, line, second);
     replay::flush(line, end);
 }
 
 // Each node's words as a line.
 fn list_nodes(words: &[u64], line: &mut [u8]) {
     let mut end = 0;
-    let mut at = 0;
-    while at < words.len() {
+    for (at, word) in words.iter().enumerate() {
         let start = replay::room(line, end, WORD_ROOM);
-        end = put_node_word(words[at], at, line, start);
-        at += 1;
+        end = put_node_word(*word, at, line, start);
     }
     replay::flush(line, end);
 }
@@ -65,9 +57,10 @@ fn put_node_word(word: u64, at: usize, line: &mut [u8], start: usize) -> usize
     ensures { Onward (length line.old) start result }
 {
     let end = replay::put_number(word, line, start);
-    if at % STRIDE == STRIDE - 1 {
-        replay::put(b"\n", line, end)
+    let parting = if at % STRIDE == STRIDE - 1 {
+        b"\n"
     } else {
-        replay::put(b" ", line, end)
-    }
+        b" "
+    };
+    replay::put(parting, line, end)
 }

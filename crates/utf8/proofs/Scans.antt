@@ -1,19 +1,15 @@
 -- The loop over sequences, and the bytes after a lead.
 -- Assumes nothing.
+use Rattle.std.proofs.Common.{None, Some}
 use mathlib.Core.Path.{◌≡◌, refl, sym, ap, ◌∙◌}
 use mathlib.Core.Bool.{Bool, true, false, cond, ◌&&◌}
 use mathlib.Core.List.{List, [], ◌∷◌}
 use Prim.Native.Nat.{ℕ, suc, ◌+◌, ◌-◌, ◌≤◌, ◌<◌}
 use native.Mathlib.Omega.{arith}
-use lib.ListN.{length, get_or, drop, replicate, length-drop, drop_of_length-le}
+use lib.ListN.{length, drop, replicate, length-drop, drop_of_length-le}
 use lib.Seq.{drop-drop}
-use lib.Dec.{leb}
-use borrow.Author.Tests.{le-leb, lt-leb}
-use Rattle.ground.proofs.Tests.{and-true}
-use Rattle.ground.proofs.Lists.{at_place}
-use Rattle.utf8.specs.Rows.{Span, ◌to◌, tail, rows}
+use Rattle.utf8.specs.Rows.{Span, tail, rows}
 use Rattle.utf8.specs.Octets.{within, starts_with, width, octets, utf8}
-use Rattle.utf8.proofs.Leads.{apart, no_lead, row-tells}
 use Rattle.utf8.proofs.Concatenations.{octets-step, octets-stuck, width_le, fits}
 
 -- the octets before i are whole sequences
@@ -29,7 +25,7 @@ module _ (s : List ℕ) (i n : ℕ) (less : i < length s) (is : n ≡ width rows
   pub passed-within : i + n ≤ length s
   passed-within = omega (arith, width_le rows (drop i s), length-drop i s)
 
-  pub passed-step : (n ≡ 0 → ⊥) → Passed s i → Passed s (i + n)
+  pub passed-step : 0 < n → Passed s i → Passed s (i + n)
   passed-step more h =
       let p : 0 < width rows (drop i s) = omega arith in
       record {
@@ -39,34 +35,12 @@ module _ (s : List ℕ) (i n : ℕ) (less : i < length s) (is : n ≡ width rows
             ∙ sym (octets-step (drop i s) p) ∙ h.rest;
       }
 
-  pub passed-stuck : n ≡ 0 → Passed s i → false ≡ utf8 s
-  passed-stuck e h = sym (octets-stuck (drop i s) (omega (arith, length-drop i s)) (sym is ∙ e)) ∙ h.rest
+pub passed-stuck : (s : List ℕ) (i : ℕ) → i < length s → width rows (drop i s) ≡ 0 → Passed s i → false ≡ utf8 s
+passed-stuck s i less e h = sym (octets-stuck (drop i s) (omega (arith, length-drop i s)) e) ∙ h.rest
 
 pub passed-end : (s : List ℕ) (i : ℕ) → length s ≤ i → Passed s i → true ≡ utf8 s
 unfolding octets
 passed-end s i past h = ap (λ (l : List ℕ). octets 0 l) (sym (drop_of_length-le s past)) ∙ h.rest
-
--- the lead at i: of the row k, or of none
-module _ (s : List ℕ) (i : ℕ) (h : i < length s) where
-  pub lead-row : (k first last : ℕ) (ps : List Span) (n : ℕ) → get_or rows k [] ≡ first to last ∷ ps → first ≤ get_or s i 0 → get_or s i 0 ≤ last
-      → n ≡ cond (starts_with ps (drop (i + 1) s)) (suc (length ps)) 0 → n ≡ width rows (drop i s)
-  lead-row k first last ps n e l u is =
-      is ∙ sym (row-tells k first last (get_or s i 0) ps (drop (i + 1) s) e l u) ∙ ap (λ (x : List ℕ). width rows x) (sym (at_place s i h))
-
-  pub lead-none : (a z : ℕ) → apart a z rows ≡ true → a ≤ get_or s i 0 → get_or s i 0 ≤ z → 0 ≡ width rows (drop i s)
-  lead-none a z e l u =
-      sym (no_lead rows a z (get_or s i 0) (drop (i + 1) s) e l u) ∙ ap (λ (x : List ℕ). width rows x) (sym (at_place s i h))
-
--- one octet of a span
-module _ (s : List ℕ) (j first last : ℕ) where
-  pub octet_past : length s ≤ j → false ≡ starts_with (first to last ∷ []) (drop j s)
-  octet_past h = rw (drop_of_length-le s h)
-
-  pub octet_low : j < length s → get_or s j 0 < first → false ≡ starts_with (first to last ∷ []) (drop j s)
-  octet_low h l = rw (at_place s j h) (rw (lt-leb first (get_or s j 0) l))
-
-  pub octet_last : j < length s → first ≤ get_or s j 0 → leb (get_or s j 0) last ≡ starts_with (first to last ∷ []) (drop j s)
-  octet_last h l = rw (at_place s j h) (rw (le-leb first (get_or s j 0) l) (sym (and-true (leb (get_or s j 0) last))))
 
 -- a row is its first octet and the rest
 split : (p : Span) (ps : List Span) (s : List ℕ) → starts_with (p ∷ ps) s ≡ (starts_with (p ∷ []) s && starts_with ps (drop 1 s))
@@ -89,33 +63,31 @@ module _ (p : Span) (ps : List Span) (s : List ℕ) (j : ℕ) where
   pub there : true ≡ starts_with (p ∷ []) (drop j s) → j < length s
   there h = omega (arith, fits (p ∷ []) (drop j s) (sym h), length-drop j s)
 
--- of a row whose test is w, what is left to be looked at from j on: so many tails
-pub record Tails (s : List ℕ) (w : Bool) (j left : ℕ) : Type 0 where
-  pub upto : j ≤ length s
-  pub same : w ≡ starts_with (replicate left tail) (drop j s)
-
+-- of a row whose test is w, tails are left to be looked at from j to a place
 pub tails_start : (s : List ℕ) (p : Span) (i left : ℕ) → true ≡ starts_with (p ∷ []) (drop (i + 1) s)
-    → Tails s (starts_with (p ∷ replicate left tail) (drop (i + 1) s)) (i + 2) left
+    → starts_with (p ∷ replicate left tail) (drop (i + 1) s) ≡ starts_with (replicate (i + 2 + left - (i + 2)) tail) (drop (i + 2) s)
 tails_start s p i left h =
     let e : i + 1 + 1 ≡ i + 2 = omega arith in
-    rw (← e) (record { upto = omega (arith, there p [] s (i + 1) h); same = next p (replicate left tail) s (i + 1) h })
+    let f : i + 2 + left - (i + 2) ≡ left = omega arith in
+    rw f (next p (replicate left tail) s (i + 1) h ∙ ap (λ (k : ℕ). starts_with (replicate left tail) (drop k s)) e)
 
-module _ (s : List ℕ) (w : Bool) (j left : ℕ) (h : Tails s w j left) where
-  one_more : 0 < left → w ≡ starts_with (tail ∷ replicate (left - 1) tail) (drop j s)
+module _ (s : List ℕ) (w : Bool) (j end : ℕ) (h : w ≡ starts_with (replicate (end - j) tail) (drop j s)) where
+  one_more : j < end → w ≡ starts_with (tail ∷ replicate (end - (j + 1)) tail) (drop j s)
   one_more l =
-      let e : left ≡ suc (left - 1) = omega arith in
-      h.same ∙ ap (λ (n : ℕ). starts_with (replicate n tail) (drop j s)) e
+      let e : end - j ≡ suc (end - (j + 1)) = omega arith in
+      h ∙ ap (λ (n : ℕ). starts_with (replicate n tail) (drop j s)) e
 
-  pub tails_step : 0 < left → true ≡ starts_with (tail ∷ []) (drop j s) → Tails s w (j + 1) (left - 1)
-  tails_step l g =
-      record { upto = omega (arith, there tail [] s j g); same = one_more l ∙ next tail (replicate (left - 1) tail) s j g }
+  pub tails_step : j < end → true ≡ starts_with (tail ∷ []) (drop j s) → w ≡ starts_with (replicate (end - (j + 1)) tail) (drop (j + 1) s)
+  tails_step l g = one_more l ∙ next tail (replicate (end - (j + 1)) tail) s j g
 
-  pub tails_stop : (n : ℕ) → 0 < left → false ≡ starts_with (tail ∷ []) (drop j s) → 0 ≡ cond w n 0
-  tails_stop n l g = sym (ap (λ (t : Bool). cond t n 0) (one_more l ∙ stops tail (replicate (left - 1) tail) s j g))
+  pub tails_stop : (n : ℕ) → j < end → false ≡ starts_with (tail ∷ []) (drop j s) → None ≡ cond w (Some n) None
+  tails_stop n l g = sym (ap (λ (t : Bool). cond t (Some n) None) (one_more l ∙ stops tail (replicate (end - (j + 1)) tail) s j g))
 
-  pub tails_end : (n : ℕ) → left ≡ 0 → n ≡ cond w n 0
-  tails_end n e = sym (ap (λ (t : Bool). cond t n 0) (h.same ∙ ap (λ (k : ℕ). starts_with (replicate k tail) (drop j s)) e))
+  pub tails_end : (n : ℕ) → end ≤ j → Some n ≡ cond w (Some n) None
+  tails_end n past =
+      let e : end - j ≡ 0 = omega arith in
+      sym (ap (λ (t : Bool). cond t (Some n) None) (h ∙ ap (λ (k : ℕ). starts_with (replicate k tail) (drop j s)) e))
 
 pub row-stops : (s : List ℕ) (p : Span) (i left n : ℕ) → false ≡ starts_with (p ∷ []) (drop (i + 1) s)
-    → 0 ≡ cond (starts_with (p ∷ replicate left tail) (drop (i + 1) s)) n 0
-row-stops s p i left n h = sym (ap (λ (t : Bool). cond t n 0) (stops p (replicate left tail) s (i + 1) h))
+    → None ≡ cond (starts_with (p ∷ replicate left tail) (drop (i + 1) s)) (Some n) None
+row-stops s p i left n h = sym (ap (λ (t : Bool). cond t (Some n) None) (stops p (replicate left tail) s (i + 1) h))

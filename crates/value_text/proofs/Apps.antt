@@ -1,9 +1,9 @@
 -- An application opened, by its shape; and a value in the rest of the buffer.
 -- Assumes nothing.
+use Rattle.std.proofs.Common.{Option, Some}
 use mathlib.Core.Path.{◌≡◌, refl, sym, ap, ◌∙◌, subst}
 use mathlib.Core.Bool.{true}
 use mathlib.Core.List.{List, [], ◌∷◌, ◌++◌, append-nil, append_assoc}
-use mathlib.Core.Option.{Option, some}
 use Prim.Native.Nat.{ℕ, ◌+◌, ◌-◌, ◌*◌, ◌^◌, ◌≤◌, ◌<◌}
 use native.Mathlib.Nat.{mod-eq_of_lt}
 use native.Mathlib.Omega.{arith}
@@ -103,7 +103,7 @@ record_fielded T ws ts below first many row us vs s h =
 module _ (sorts names ws ts : List ℕ) where
   -- (NAME ..), where NAME is the text there
   module _ (offset size first many : ℕ) (a b : List ℕ) (slice : List ℕ) (is : slice ≡ text_at ts offset size) (made_as : Made) (of : MadeOf sorts names slice made_as) where
-    row_is : (l : Lent) → l.sorts ≡ sorts → l.names ≡ names → (f : List ℕ) → TextReads f ts offset size → (row : ℕ) → named_sort (tables_of l) f ≡ some row → RowIs (tables_of l) row made_as
+    row_is : (l : Lent) → l.sorts ≡ sorts → l.names ≡ names → (f : List ℕ) → TextReads f ts offset size → (row : ℕ) → named_sort (tables_of l) f ≡ Some row → RowIs (tables_of l) row made_as
     row_is l p n f q row h = of l p n row (ap (named_sort (tables_of l)) (is ∙ q.bytes) ∙ h)
 
     pub made-entity : (row r : ℕ) → made_as ≡ Made.Entity row → EntityText ws ts row first a b r → OpensMade sorts names ws ts offset size first many a b (Opened.Whole r)

@@ -1,9 +1,9 @@
 -- An accepted application: what was read below it, and the value that it is, by its shape.
 -- Assumes nothing.
+use Rattle.std.proofs.Common.{None, Option, Some, Ok}
 use mathlib.Core.Path.{◌≡◌, refl, sym, ap, ◌∙◌, subst}
 use mathlib.Core.Bool.{Bool, true, false, ◌&&◌, true≢false}
 use mathlib.Core.List.{List, [], ◌∷◌}
-use mathlib.Core.Option.{Option, none, some}
 use Prim.Native.Nat.{ℕ, suc, ◌%◌, ◌^◌, ◌<◌}
 use lib.Dec.{leb, ltb}
 use borrow.Author.Tests.{ltb-true}
@@ -12,13 +12,11 @@ use Rattle.ground.proofs.Tests.{by_test}
 use Rattle.refusals.specs.declared.Refusal.TheVariants.{IntegerOverflow, ZeroWidthBitVec, UnknownLiteral, UnmatchedType, UnmatchedFieldType, UnmatchedRecordType, SetUnionNonLiterals}
 use Rattle.words.specs.declared.digits.Radix.{Radix}
 use Rattle.words.specs.Extension.{signed}
-use Rattle.words.specs.Pair.{value}
 use Rattle.words.specs.Run.{parsed}
 use Rattle.arena.specs.Tree.{Tree, Trees, bit_vec as bits, numeral, string as quoted, symbol, app, nil, cons}
 use Rattle.tables.specs.Find.{named_sort}
 use Rattle.tables.specs.Sort.{Ext, Sort, bool, string, ext, bit_vec, option_of, set_of, entity_of, record_of, Tables}
 use Rattle.shapes.specs.Shape.{Shape, uncovered, unary, binary, ite, as_none, as_some, some_of, as_empty, singleton, union, extension, indexed, made, other, shape}
-use Rattle.sorts.specs.Result.{ok}
 use Rattle.sorts.specs.Sort.{read_sort}
 use Rattle.values.specs.Value.{Value, Values, v_bool, v_string, v_ext, v_bits, v_none, v_some, v_set, v_entity, v_record, v_nil, v_cons, union as both}
 use Rattle.values.specs.HasSort.{FieldSorts, Loose}
@@ -51,7 +49,7 @@ same_set vs ws e = cc
 pub record Inner (T : Tables) (a : ℕ) (v : Tree) (make : Value → Value) (whole : Value) : Type 0 where
   pub expected : Option ℕ
   pub inner : Lit
-  pub was : read T a expected v ≡ ok inner
+  pub was : read T a expected v ≡ Ok inner
   pub is : make inner.value ≡ whole
 
 pub record Both (T : Tables) (a : ℕ) (v w : Tree) (whole : Value) : Type 0 where
@@ -60,23 +58,23 @@ pub record Both (T : Tables) (a : ℕ) (v w : Tree) (whole : Value) : Type 0 whe
   pub right : Lit
   pub vs : Values
   pub ws : Values
-  pub left-was : read T a expected v ≡ ok left
-  pub right-was : read T a expected w ≡ ok right
+  pub left-was : read T a expected v ≡ Ok left
+  pub right-was : read T a expected w ≡ Ok right
   pub left_is : left.value ≡ v_set vs
   pub right_is : right.value ≡ v_set ws
   pub is : v_set (both vs ws) ≡ whole
 
 pub record Numbered (digits : List ℕ) (w : ℕ) (whole : Value) : Type 0 where
   pub number : ℕ
-  pub was : numbered (parsed Radix.Decimal (unsigned digits)) ≡ ok number
+  pub was : numbered (parsed Radix.Decimal (unsigned digits)) ≡ Ok number
   pub small : w < 2 ^ 32
   pub is : v_bits w number ≡ whole
 
 module _ (T : Tables) (a : ℕ) (e : Option ℕ) (k : Lit) where
   abbrev pub Reads : Shape → Type 0
-  Reads s = app_lit T (λ t. read_sort T a t) (λ x u. read T a x u) false e s ≡ ok k
+  Reads s = app_lit T (λ t. read_sort T a t) (λ x u. read T a x u) false e s ≡ Ok k
 
-  pub app-reads : (us : Trees) → read T (suc a) e (app us) ≡ ok k → Reads (shape us)
+  pub app-reads : (us : Trees) → read T (suc a) e (app us) ≡ Ok k → Reads (shape us)
   unfolding read_with
   app-reads us m = m
 
@@ -150,12 +148,12 @@ module _ (T : Tables) (a : ℕ) (e : Option ℕ) (k : Lit) where
       record { number = g.got; was = g.first; small = ltb-true w (2 ^ 32) o.0; is = ap (λ (l : Lit). l.value) (ok_same p.next) })
 
   -- (NAME ..), by the sort of NAME's row
-  named-row : (f : List ℕ) (us : Trees) → Reads (made f us) → (row : ℕ) × (named_sort T f ≡ some row) × (made_row T (λ t. read_sort T a t) (λ x u. read T a x u) row (at T.sorts row) us ≡ ok k)
+  named-row : (f : List ℕ) (us : Trees) → Reads (made f us) → (row : ℕ) × (named_sort T f ≡ Some row) × (made_row T (λ t. read_sort T a t) (λ x u. read T a x u) row (at T.sorts row) us ≡ Ok k)
   named-row f us m =
       let w = went _ _ k m in
       (w.got, was-found UnknownLiteral (named_sort T f) w.got w.first, w.next)
 
-  entity-arm : (row : ℕ) (us : Trees) → entity_lit row us ≡ ok k → (s : List ℕ) × (us ≡ cons (quoted s) nil) × (v_entity row s ≡ k.value)
+  entity-arm : (row : ℕ) (us : Trees) → entity_lit row us ≡ Ok k → (s : List ℕ) × (us ≡ cons (quoted s) nil) × (v_entity row s ≡ k.value)
   entity-arm row nil m = refuses m
   entity-arm row (cons (bits w n) us) m = refuses m
   entity-arm row (cons (numeral n) us) m = refuses m
@@ -164,40 +162,40 @@ module _ (T : Tables) (a : ℕ) (e : Option ℕ) (k : Lit) where
   entity-arm row (cons (symbol s) us) m = refuses m
   entity-arm row (cons (app ts) us) m = refuses m
 
-  pub made-name : (f : List ℕ) (us : Trees) → Reads (made f us) → (row : ℕ) × (named_sort T f ≡ some row)
+  pub made-name : (f : List ℕ) (us : Trees) → Reads (made f us) → (row : ℕ) × (named_sort T f ≡ Some row)
   made-name f us m = let n = named-row f us m in (n.0, n.1)
 
-  pub as_entity : (f : List ℕ) (us : Trees) (row : ℕ) (name : List ℕ) → Reads (made f us) → named_sort T f ≡ some row → at T.sorts row ≡ some (entity_of name) →
+  pub as_entity : (f : List ℕ) (us : Trees) (row : ℕ) (name : List ℕ) → Reads (made f us) → named_sort T f ≡ Some row → at T.sorts row ≡ Some (entity_of name) →
       (s : List ℕ) × (us ≡ cons (quoted s) nil) × (v_entity row s ≡ k.value)
   as_entity f us row name m h g =
       let n = named-row f us m in
-      let o : some n.0 ≡ some row = sym n.1 ∙ h in
+      let o : Some n.0 ≡ Some row = sym n.1 ∙ h in
       let q : n.0 ≡ row = cc in
-      let p = subst (λ (j : ℕ). made_row T (λ t. read_sort T a t) (λ x u. read T a x u) j (at T.sorts j) us ≡ ok k) q n.2 in
-      entity-arm row us (subst (λ (s : Option Sort). made_row T (λ t. read_sort T a t) (λ x u. read T a x u) row s us ≡ ok k) g p)
+      let p = subst (λ (j : ℕ). made_row T (λ t. read_sort T a t) (λ x u. read T a x u) j (at T.sorts j) us ≡ Ok k) q n.2 in
+      entity-arm row us (subst (λ (s : Option Sort). made_row T (λ t. read_sort T a t) (λ x u. read T a x u) row s us ≡ Ok k) g p)
 
-  pub as_record : (f : List ℕ) (us : Trees) (row : ℕ) (name fs : List ℕ) → Reads (made f us) → named_sort T f ≡ some row → at T.sorts row ≡ some (record_of name fs) →
-      (vs : Values) × (same_count fs us ≡ true) × (fields_of (λ x u. read T a x u) fs us ≡ ok vs) × (v_record row vs ≡ k.value)
+  pub as_record : (f : List ℕ) (us : Trees) (row : ℕ) (name fs : List ℕ) → Reads (made f us) → named_sort T f ≡ Some row → at T.sorts row ≡ Some (record_of name fs) →
+      (vs : Values) × (same_count fs us ≡ true) × (fields_of (λ x u. read T a x u) fs us ≡ Ok vs) × (v_record row vs ≡ k.value)
   as_record f us row name fs m h g =
       let n = named-row f us m in
-      let o : some n.0 ≡ some row = sym n.1 ∙ h in
+      let o : Some n.0 ≡ Some row = sym n.1 ∙ h in
       let q : n.0 ≡ row = cc in
-      let p = subst (λ (j : ℕ). made_row T (λ t. read_sort T a t) (λ x u. read T a x u) j (at T.sorts j) us ≡ ok k) q n.2 in
-      let z = passed _ UnmatchedRecordType _ k (subst (λ (s : Option Sort). made_row T (λ t. read_sort T a t) (λ x u. read T a x u) row s us ≡ ok k) g p) in
+      let p = subst (λ (j : ℕ). made_row T (λ t. read_sort T a t) (λ x u. read T a x u) j (at T.sorts j) us ≡ Ok k) q n.2 in
+      let z = passed _ UnmatchedRecordType _ k (subst (λ (s : Option Sort). made_row T (λ t. read_sort T a t) (λ x u. read T a x u) row s us ≡ Ok k) g p) in
       let w = went _ _ k z.1 in
       (w.got, z.0, w.first, ap (λ (l : Lit). l.value) (ok_same w.next))
 
   -- neither is a set
-  row-not-set : (row : ℕ) (o : Option Sort) (us : Trees) → made_row T (λ t. read_sort T a t) (λ x u. read T a x u) row o us ≡ ok k → set_of? k.value ≡ false
-  row-not-set row none us m = refuses m
-  row-not-set row (some bool) us m = refuses m
-  row-not-set row (some string) us m = refuses m
-  row-not-set row (some (ext x)) us m = refuses m
-  row-not-set row (some (bit_vec w)) us m = refuses m
-  row-not-set row (some (option_of q)) us m = refuses m
-  row-not-set row (some (set_of q)) us m = refuses m
-  row-not-set row (some (entity_of name)) us m = let n = entity-arm row us m in sym (ap set_of? n.2)
-  row-not-set row (some (record_of name fs)) us m =
+  row-not-set : (row : ℕ) (o : Option Sort) (us : Trees) → made_row T (λ t. read_sort T a t) (λ x u. read T a x u) row o us ≡ Ok k → set_of? k.value ≡ false
+  row-not-set row None us m = refuses m
+  row-not-set row (Some bool) us m = refuses m
+  row-not-set row (Some string) us m = refuses m
+  row-not-set row (Some (ext x)) us m = refuses m
+  row-not-set row (Some (bit_vec w)) us m = refuses m
+  row-not-set row (Some (option_of q)) us m = refuses m
+  row-not-set row (Some (set_of q)) us m = refuses m
+  row-not-set row (Some (entity_of name)) us m = let n = entity-arm row us m in sym (ap set_of? n.2)
+  row-not-set row (Some (record_of name fs)) us m =
       let z = passed _ UnmatchedRecordType _ k m in
       let w = went _ _ k z.1 in
       sym (ap (λ (l : Lit). set_of? l.value) (ok_same w.next))
@@ -252,7 +250,7 @@ module _ (T : Tables) (a : ℕ) (e : Option ℕ) (k : Lit) where
   set-shape (ite c v w) m h = refuses m
 
   -- what is read as a set is an application
-  pub set-app : (t : Tree) (vs : Values) → read T (suc a) e t ≡ ok k → k.value ≡ v_set vs → (us : Trees) × (t ≡ app us)
+  pub set-app : (t : Tree) (vs : Values) → read T (suc a) e t ≡ Ok k → k.value ≡ v_set vs → (us : Trees) × (t ≡ app us)
   set-app t vs m h = go t k.row k.value (reading T false a e t k m) h
     where
       go : (t : Tree) (row : ℕ) (v : Value) → Reading false T a e t row v → v ≡ v_set vs → (us : Trees) × (t ≡ app us)
@@ -265,7 +263,7 @@ module _ (T : Tables) (a : ℕ) (e : Option ℕ) (k : Lit) where
       go (numeral _) row v r h = elim r [ ]
 
 -- the fields of a record, each of a sort
-pub listed : (T : Tables) (a : ℕ) (fs : List ℕ) (us : Trees) (vs : Values) (gs : List ℕ) → same_count fs us ≡ true → fields_of (λ x u. read T a x u) fs us ≡ ok vs → FieldSorts vs Loose T gs → Listed T a us vs
+pub listed : (T : Tables) (a : ℕ) (fs : List ℕ) (us : Trees) (vs : Values) (gs : List ℕ) → same_count fs us ≡ true → fields_of (λ x u. read T a x u) fs us ≡ Ok vs → FieldSorts vs Loose T gs → Listed T a us vs
 listed T a [] nil vs gs c m h = subst (λ (k : Values). Listed T a nil k) (ok_same m) l_nil
 listed T a [] (cons u us) vs gs c m h = absurd (true≢false (sym c))
 listed T a (f ∷ fs) nil vs gs c m h = absurd (true≢false (sym c))
@@ -276,4 +274,4 @@ listed T a (f ∷ fs) (cons u us) vs gs c m h =
     let e : v_cons w.got.value z.got ≡ vs = ok_same z.next in
     let g = subst (λ (k : Values). FieldSorts k Loose T gs) (sym e) h in
     subst (λ (k : Values). Listed T a (cons u us) k) e
-    (l_cons (some f) w.got w.first g.first g.head (listed T a fs us z.got g.rest c z.first g.tail))
+    (l_cons (Some f) w.got w.first g.first g.head (listed T a fs us z.got g.rest c z.first g.tail))

@@ -14,9 +14,9 @@ pub digit-small : (d : ℕ) → d < 10 → 48 + d ≡ hex_digit d
 unfolding hex_digit
 digit-small d h = rw (lt-ltb d 10 h)
 
-pub digit_large : (d : ℕ) → 10 ≤ d → 87 + d ≡ hex_digit d
+pub digit_large : (d : ℕ) → 10 ≤ d → 97 + (d - 10) ≡ hex_digit d
 unfolding hex_digit
-digit_large d h = rw (le-ltb d 10 h)
+digit_large d h = let e : 97 + (d - 10) ≡ 87 + d = omega arith in rw (le-ltb d 10 h) e
 
 -- a number of two words without its last digit, and that digit
 pub shorter : (low high : ℕ) → low / 16 + high % 16 * 1152921504606846976 + high / 16 * 2 ^ 64 ≡ (low + high * 2 ^ 64) / 16

@@ -1,9 +1,9 @@
 -- Values without another one in them: what their writers leave.
 -- Assumes nothing.
+use Rattle.std.proofs.Common.{Option, Some, Err, None, Ok, Result}
 use mathlib.Core.Path.{◌≡◌, refl, sym, ap, ap₂, ◌∙◌, subst}
 use mathlib.Core.Bool.{Bool, true, false, ◌||◌, true≢false}
 use mathlib.Core.List.{List, [], ◌∷◌, ◌++◌, append_assoc}
-use mathlib.Core.Option.{Option, some}
 use Prim.Native.Nat.{ℕ, ◌+◌, ◌-◌, ◌%◌, ◌^◌, ◌≤◌, ◌<◌}
 use Prim.Native.String.{String}
 use native.Mathlib.Omega.{arith}
@@ -12,20 +12,19 @@ use lib.ListN.{length, take, drop}
 use mir.Syntax.{w64}
 use mir.Val.{SFits}
 use mir.ValLaws.{to_z-of_z}
-use borrow.Author.Tests.{le-leb}
+use borrow.Author.Tests.{le-leb, lt-leb}
 use types.Run.{OneOf, miss}
 use denote.Enum.Declared.{tag_of}
 use borrow.Rule.Slice.PartMut.{put_mid, mid_len}
 use Rattle.ground.specs.Bytes.{bytes}
-use Rattle.ground.specs.Lists.{at}
-use Rattle.ground.proofs.Tests.{by_test}
+use Rattle.ground.proofs.Tests.{by_test, by_order}
+use Rattle.ground.proofs.Options.{ok-same}
+use Rattle.lent.proofs.Lefts.{written-not}
 use Rattle.refusals.specs.declared.Refusal.{Refusal}
 use Rattle.refusals.specs.declared.Refusal.TheVariants.{OutRoom}
-use Rattle.lent.specs.declared.Written.{Written}
 use Rattle.lent.specs.Left.{onto, writing, Leaves}
 use Rattle.lent.specs.Put.{Offers}
 use Rattle.lent.proofs.Offers.{offers_then, offers_as, offers_past, offers_tail}
-use Rattle.words.specs.declared.digits.Parsed.{Parsed}
 use Rattle.words.specs.declared.digits.Radix.{Radix}
 use Rattle.words.specs.declared.pair.Pair.{Pair}
 use Rattle.words.specs.Extension.{signed}
@@ -38,7 +37,6 @@ use Rattle.arena.specs.Node.{node_at}
 use Rattle.arena.specs.contracts.node.Node as NodeType
 use Rattle.arena.specs.Text.{text_at, same_text}
 use Rattle.arena.proofs.Texts.{same-equal}
-use Rattle.tables.specs.declared.find.Found.{Found}
 use Rattle.tables.specs.declared.row.Range.{Range}
 use Rattle.tables.specs.Find.{member_row}
 use Rattle.tables.specs.Layout.{Lent, word, part, member_at, tables_of}
@@ -47,7 +45,6 @@ use Rattle.tables.specs.Range.{Clamps}
 use Rattle.tables.specs.Sort.{Sort, bool}
 use Rattle.shapes.specs.declared.shape.Kind.{Kind}
 use Rattle.shapes.specs.Shows.{ext_of}
-use Rattle.sorts.specs.Result.{Result, ok}
 use Rattle.values.specs.Value.{Value, v_bool, v_string, v_ext, v_bits, v_entity}
 use Rattle.values.specs.Text.{text, hex, hex_text, hex_width, mark}
 use Rattle.means.specs.Literal.{Lit, unsigned, numbered, lit_of, member_lit, at_row, word_lit}
@@ -60,30 +57,57 @@ holds_text : (s buffer : List ℕ) → length s ≤ length buffer → (writing O
 unfolding writing
 holds_text s buffer h = rw (le-leb (length s) (length buffer) h)
 
+answers_text : (s buffer : List ℕ) → length s ≤ length buffer → (writing OutRoom s buffer).answer ≡ Ok (length s)
+unfolding writing
+answers_text s buffer h = rw (le-leb (length s) (length buffer) h)
+
+refused_text : (s buffer : List ℕ) → length buffer < length s → (writing OutRoom s buffer).answer ≡ Err (OutRoom (length s))
+unfolding writing
+refused_text s buffer h = rw (lt-leb (length s) (length buffer) h)
+
 -- a text at a place, written to the front of the rest where there is room
 module _ (s d : List ℕ) (at : ℕ) where
   pub rest-past : length d < at → Offers d d at s at
   rest-past h = offers_past d s at at (omega arith)
 
-  module _ (need : ℕ) (l : need ≡ length s) (under : at ≤ length d) where
-    pub rest-short : length d - at < need → Offers d d at s at
-    rest-short h = offers_past d s at at (omega arith)
+  -- a writer of the text was lent the rest
+  module _ (under : at ≤ length d) (w : Result ℕ Refusal) (part : List ℕ) (k : Leaves (writing OutRoom s (take (length d - at) (drop at d))) w part) where
+    front-long : length (take (length d - at) (drop at d)) ≡ length d - at
+    front-long = mid_len at (length d) d (omega arith)
 
-    pub rest-text : need ≤ length d - at → (w : Written) (part : List ℕ) → Leaves (writing OutRoom s (take (length d - at) (drop at d))) w part → Offers d (put_mid at (length d - at) d part) at s (at + need)
-    rest-text h w part k =
-        let m : length (take (length d - at) (drop at d)) ≡ length d - at = mid_len at (length d) d (omega arith) in
-        offers_tail d s part at need (record { long = l; holds = k.holds ∙ holds_text s (take (length d - at) (drop at d)) (omega arith) })
+    wrote : (long : ℕ) → w ≡ Ok long → (long ≡ length s) × (length s ≤ length (take (length d - at) (drop at d)))
+    wrote long e =
+        by_order (length (take (length d - at) (drop at d))) (length s)
+        (λ h. let g : ◌≡◌ {A = Result ℕ Refusal} (Ok long) (Err (OutRoom (length s))) = sym e ∙ k.answers ∙ refused_text s (take (length d - at) (drop at d)) h in
+        let z : ◌≡◌ {A = ℕ} 0 1 = cc in absurd (omega arith))
+        (λ h. (ok-same {B = Refusal} (sym e ∙ k.answers ∙ answers_text s (take (length d - at) (drop at d)) h), h))
+
+    pub rest-within : (long : ℕ) → w ≡ Ok long → at + long ≤ length d
+    rest-within long e = let p = wrote long e in omega (arith, p.0, p.1, front-long)
+
+    pub rest-text : (long : ℕ) → w ≡ Ok long → Offers d (put_mid at (length d - at) d part) at s (at + long)
+    rest-text long e =
+        let p = wrote long e in
+        offers_tail d s part at long (record { long = p.0; holds = k.holds ∙ holds_text s (take (length d - at) (drop at d)) p.1 })
+
+    pub rest-full : (z : Refusal) → w ≡ Err z → Offers d (put_mid at (length d - at) d part) at s at
+    rest-full z e h =
+        let p = written-not OutRoom s (take (length d - at) (drop at d)) (subst (λ (x : Result ℕ Refusal). Leaves (writing OutRoom s (take (length d - at) (drop at d))) x part) e k) in
+        absurd (omega (arith, p.1, front-long))
 
 -- a signed number arrives as the machine reads it back from its bits
 pub signed_back : (z : ℤ) → SFits w64 z → signed_decimal (back z) ≡ signed_decimal z
 signed_back z f = ap signed_decimal (to_z-of_z w64 z f)
 
-module _ (z : ℤ) (f : SFits w64 z) (d : List ℕ) (at need : ℕ) (l : need ≡ length (signed_decimal (back z))) (under : at ≤ length d) where
-  pub integer_short : length d - at < need → Offers d d at (signed_decimal z) at
-  integer_short h = offers_as (signed_back z f) (rest-short (signed_decimal (back z)) d at need l under h)
+module _ (z : ℤ) (f : SFits w64 z) (d : List ℕ) (at : ℕ) (under : at ≤ length d) (w : Result ℕ Refusal) (part : List ℕ) (k : Leaves (writing OutRoom (signed_decimal (back z)) (take (length d - at) (drop at d))) w part) where
+  pub integer-within : (long : ℕ) → w ≡ Ok long → at + long ≤ length d
+  integer-within long e = rest-within (signed_decimal (back z)) d at under w part k long e
 
-  pub integer_text : need ≤ length d - at → (w : Written) (part : List ℕ) → Leaves (writing OutRoom (signed_decimal (back z)) (take (length d - at) (drop at d))) w part → Offers d (put_mid at (length d - at) d part) at (signed_decimal z) (at + need)
-  integer_text h w part k = offers_as (signed_back z f) (rest-text (signed_decimal (back z)) d at need l under h w part k)
+  pub integer_text : (long : ℕ) → w ≡ Ok long → Offers d (put_mid at (length d - at) d part) at (signed_decimal z) (at + long)
+  integer_text long e = offers_as (signed_back z f) (rest-text (signed_decimal (back z)) d at under w part k long e)
+
+  pub integer_full : (why : Refusal) → w ≡ Err why → Offers d (put_mid at (length d - at) d part) at (signed_decimal z) at
+  integer_full why e = offers_as (signed_back z f) (rest-full (signed_decimal (back z)) d at under w part k why e)
 
 -- a text whose head was written before
 headed : (letters : String) (n last : ℕ) (s : List ℕ) → bytes letters ++ (decimal n ++ (last ∷ [])) ++ s ≡ bytes letters ++ (decimal n ++ (last ∷ s))
@@ -101,13 +125,13 @@ bits-text w n count m f k p q = offers_as (headed "bv" w 58 (hex (hex_width w) n
 pub range_holds : (xs : List ℕ) (first size : ℕ) (range : Range) → Clamps first size (length xs) range → take (range.end - range.start) (drop range.start xs) ≡ text_at xs first size
 range_holds xs first size range c = c.holds xs refl
 
-module _ (digits slice a b : List ℕ) (w r : ℕ) (s : slice ≡ digits) (p : Parsed) (e : p ≡ parsed Radix.Decimal (unsigned slice)) where
-  pub indexed-number : (pair : Pair) → p ≡ Parsed.Number pair → Offers a b 0 (text (v_bits w (value pair % 2 ^ w))) r → IndexedText digits w a b r
+module _ (digits slice a b : List ℕ) (w r : ℕ) (s : slice ≡ digits) (p : Result Pair Refusal) (e : p ≡ parsed Radix.Decimal (unsigned slice)) where
+  pub indexed-number : (pair : Pair) → p ≡ Ok pair → Offers a b 0 (text (v_bits w (value pair % 2 ^ w))) r → IndexedText digits w a b r
   indexed-number pair k f n g =
       let v : value pair ≡ n = ok_same (ap numbered (sym k ∙ e ∙ ap (λ (t : List ℕ). parsed Radix.Decimal (unsigned t)) s) ∙ g) in
       subst (λ (m : ℕ). Offers a b 0 (text (v_bits w (m % 2 ^ w))) r) v f
 
-  pub indexed-refused : (why : Refusal) → p ≡ Parsed.Refused why → IndexedText digits w a b r
+  pub indexed-refused : (why : Refusal) → p ≡ Err why → IndexedText digits w a b r
   indexed-refused why k n g = refuses (ap numbered (sym k ∙ e ∙ ap (λ (t : List ℕ). parsed Radix.Decimal (unsigned t)) s) ∙ g)
 
 pub string-text : (s slice : List ℕ) {a b c : List ℕ} {one r : ℕ} → Offers a b 0 (bytes "s:") one → Offers b c one (hex_text slice) r → slice ≡ s → Offers a c 0 (text (v_string s)) r
@@ -169,7 +193,7 @@ module _ (members names name a b : List ℕ) (r : ℕ) where
   abbrev Says : String → Bool → Type 0
   Says this t = same_text name (bytes this) ≡ t
 
-  lit-value : (l : Lent) (s : Sort) (v : Value) (k : Lit) → lit_of (tables_of l) s v ≡ ok k → v ≡ k.value
+  lit-value : (l : Lent) (s : Sort) (v : Value) (k : Lit) → lit_of (tables_of l) s v ≡ Ok k → v ≡ k.value
   lit-value l s v k e = let w = went _ _ k e in ap (λ (x : Lit). x.value) (ok_same w.next)
 
   name_true : Says "true" true → Offers a b 0 (bytes "true") r → WordText members names name a b r
@@ -195,21 +219,21 @@ module _ (members names name a b : List ℕ) (r : ℕ) where
   no_false : truthful ≡ false → Says "false" false
   no_false e = rw (no_true e) at e
 
-  module _ (no_truth : truthful ≡ false) (q : Found) (found : FindsMember members names name q) where
-    abbrev member_of : Lent → Option ℕ → Result Lit
+  module _ (no_truth : truthful ≡ false) (q : Option ℕ) (found : FindsMember members names name q) where
+    abbrev member_of : Lent → Option ℕ → Result Lit Refusal
     member_of l o = member_lit (tables_of l) (at_row (tables_of l) (tables_of l).members o)
 
-    is_member : (l : Lent) (k : Lit) → word_lit (tables_of l) name ≡ ok k → member_of l (member_row (tables_of l) name) ≡ ok k
+    is_member : (l : Lent) (k : Lit) → word_lit (tables_of l) name ≡ Ok k → member_of l (member_row (tables_of l) name) ≡ Ok k
     is_member l k e = rw (no_true no_truth, no_false no_truth) at e
 
-    pub name-member : (row : ℕ) → q ≡ Found.Row row → MemberText members names row a b r → WordText members names name a b r
+    pub name-member : (row : ℕ) → q ≡ Some row → MemberText members names row a b r → WordText members names name a b r
     name-member row e f l m n k w =
         let o = found-row (member_row (tables_of l) name) q row (found l m n) e in
-        let p : member_lit (tables_of l) (some (member_at l row)) ≡ ok k =
+        let p : member_lit (tables_of l) (Some (member_at l row)) ≡ Ok k =
         sym (ap (member_of l) o ∙ ap (member_lit (tables_of l)) (member-place l name row o)) ∙ is_member l k w in
         subst (λ (x : Lit). Offers a b 0 (text x.value) r) (ok_same p) (f l m n)
 
-    pub name-unknown : q ≡ Found.NoRow → WordText members names name a b r
+    pub name-unknown : q ≡ None → WordText members names name a b r
     name-unknown e l m n k w = refuses (sym (ap (member_of l) (found_none (member_row (tables_of l) name) q (found l m n) e)) ∙ is_member l k w)
 
 pub word_as : (members names a b name slice : List ℕ) (r : ℕ) → slice ≡ name → WordText members names slice a b r → WordText members names name a b r

@@ -1,16 +1,15 @@
 -- A name is an entity's or a record's: by its row, and no other row is a name's.
 -- Assumes nothing.
+use Rattle.std.proofs.Common.{None, Option, Some}
 use mathlib.Core.Path.{◌≡◌, refl, sym, ap, ◌∙◌, subst}
 use mathlib.Core.Bool.{Bool, true, false, true≢false}
 use mathlib.Core.List.{List, [], ◌∷◌}
 use mathlib.Core.Logic.{inl, inr}
-use mathlib.Core.Option.{Option, none, some}
 use Prim.Native.Nat.{ℕ}
 use native.Mathlib.Omega.{arith}
 use types.Run.{OneOf, miss}
 use denote.Enum.Declared.{tag_of}
 use Rattle.ground.specs.Lists.{at}
-use Rattle.tables.specs.declared.find.Found.{Found}
 use Rattle.tables.specs.declared.sort.SortRow.{SortRow}
 use Rattle.tables.specs.Find.{named_sort}
 use Rattle.tables.specs.Layout.{Lent, part, name_at, tables_of}
@@ -25,19 +24,19 @@ use Rattle.value_text.specs.declared.made.Made.{Made}
 use Rattle.value_text.specs.Made.{RowIs, MadeRow, MadeOf}
 
 abbrev named : Option Sort → Bool
-named none = false
-named (some bool) = false
-named (some string) = false
-named (some (ext e)) = false
-named (some (bit_vec w)) = false
-named (some (option_of q)) = false
-named (some (set_of q)) = false
-named (some (entity_of name)) = true
-named (some (record_of name fs)) = true
+named None = false
+named (Some bool) = false
+named (Some string) = false
+named (Some (ext e)) = false
+named (Some (bit_vec w)) = false
+named (Some (option_of q)) = false
+named (Some (set_of q)) = false
+named (Some (entity_of name)) = true
+named (Some (record_of name fs)) = true
 
-is-named : (name : List ℕ) (s : Sort) → IsNamed name s → named (some s) ≡ true
-is-named name s (inl e) = ap (λ (x : Sort). named (some x)) e
-is-named name s (inr (fs, e)) = ap (λ (x : Sort). named (some x)) e
+is-named : (name : List ℕ) (s : Sort) → IsNamed name s → named (Some s) ≡ true
+is-named name s (inl e) = ap (λ (x : Sort). named (Some x)) e
+is-named name s (inr (fs, e)) = ap (λ (x : Sort). named (Some x)) e
 
 abbrev nameless : SortRow → Bool
 nameless SortRow.Bool = true
@@ -93,15 +92,15 @@ module _ (sorts : List ℕ) (row : ℕ) (q : SortRow) (there : q ≡ sort_row_at
   pub made_record : (first size : ℕ) → q ≡ SortRow.Record first size → MadeRow sorts row (Made.Record row)
   made_record first size h l e = (refl, (name_at l.names l.sorts row, (part l.fields first size, meaning l e ∙ ap (meant l row) h)))
 
-module _ (sorts names name : List ℕ) (q : Found) (found : FindsNamed sorts names name q) where
-  pub made_found : (row : ℕ) → q ≡ Found.Row row → (r : Made) → MadeRow sorts row r → MadeOf sorts names name r
+module _ (sorts names name : List ℕ) (q : Option ℕ) (found : FindsNamed sorts names name q) where
+  pub made_found : (row : ℕ) → q ≡ Some row → (r : Made) → MadeRow sorts row r → MadeOf sorts names name r
   made_found row e r h l s n i f =
-      let o : some row ≡ some i = sym (found-row (named_sort (tables_of l) name) q row (found l s n) e) ∙ f in
+      let o : Some row ≡ Some i = sym (found-row (named_sort (tables_of l) name) q row (found l s n) e) ∙ f in
       let z : row ≡ i = cc in
       subst (λ (j : ℕ). RowIs (tables_of l) j r) z (h l s)
 
-  pub made_missing : q ≡ Found.NoRow → (r : Made) → MadeOf sorts names name r
+  pub made_missing : q ≡ None → (r : Made) → MadeOf sorts names name r
   made_missing e r l s n i f =
-      let o : none ≡ some i = sym (found_none (named_sort (tables_of l) name) q (found l s n) e) ∙ f in
+      let o : None ≡ Some i = sym (found_none (named_sort (tables_of l) name) q (found l s n) e) ∙ f in
       let z : ◌≡◌ {A = ℕ} 0 1 = cc in
       absurd (omega arith)

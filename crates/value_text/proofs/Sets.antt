@@ -1,9 +1,9 @@
 -- The members of a set, each ended, and the set that is made of them.
 -- Assumes nothing.
+use Rattle.std.proofs.Common.{Option, Ok}
 use mathlib.Core.Path.{◌≡◌, refl, sym, ap, ◌∙◌, subst}
 use mathlib.Core.Bool.{Bool, true, false, true≢false}
 use mathlib.Core.List.{List, [], ◌∷◌, ◌++◌}
-use mathlib.Core.Option.{Option}
 use Prim.Native.Nat.{ℕ, zero, suc, ◌+◌, ◌-◌, ◌^◌, ◌≤◌, ◌<◌}
 use native.Mathlib.Omega.{arith}
 use lib.ListN.{length, take, drop}
@@ -23,7 +23,6 @@ use Rattle.shapes.specs.declared.shape.Found.{Found}
 use Rattle.shapes.specs.contracts.shape.Found as FoundType
 use Rattle.shapes.specs.Shape.{Shape, shape}
 use Rattle.shapes.specs.Shows.{Standing, Shows, ShapeAt}
-use Rattle.sorts.specs.Result.{ok}
 use Rattle.values.specs.Value.{Value, Values, v_set, v_nil, v_cons, union as both}
 use Rattle.values.specs.Text.{text, texts}
 use Rattle.values.specs.Normal.{normal, normals, arranged_values}
@@ -114,7 +113,7 @@ module _ (sorts members names ws ts : List ℕ) (i : ℕ) (found : Found) (at : 
     by_arm f l g t s e k m vs h row hs =
         let u = set-app (tables_of l) below e k t vs m h in
         let s' = subst (λ (x : Tree). Standing x ws ts i) u.1 s in
-        let m' = subst (λ (x : Tree). read (tables_of l) (suc below) e x ≡ ok k) u.1 m in
+        let m' = subst (λ (x : Tree). read (tables_of l) (suc below) e x ≡ Ok k) u.1 m in
         f l g u.0 e k (at.1 u.0 s') (app-reads (tables_of l) below e k u.0 m') vs h row hs
 
   members-other : (below : ℕ) (a : List ℕ) (place : ℕ) → set_found found ≡ false → WritesMembers sorts members names ws ts i below a a place place
@@ -165,7 +164,7 @@ module _ (sorts members names ws ts : List ℕ) (i : ℕ) (found : Found) (at : 
     members_nested a place z = by_arm below a a place place (λ l g us e k w m vs q row hs.
         let x = subst (λ (y : Found). Shows ws ts y (shape us)) f w in
         let n = as_union (tables_of l) below e k x.0 x.1 (subst (λ (y : Shape). Reads (tables_of l) below e k y) x.2 m) in
-        refuses (subst (λ (j : ℕ). read (tables_of l) j n.expected x.0 ≡ ok n.left) z n.left-was))
+        refuses (subst (λ (j : ℕ). read (tables_of l) j n.expected x.0 ≡ Ok n.left) z n.left-was))
 
     pub members-two : (a b c : List ℕ) (place one r : ℕ) → (below ≡ 0 → ⊥) → WritesMembers sorts members names ws ts left (below - 1) a b place one → WritesMembers sorts members names ws ts right (below - 1) b c one r →
         WritesMembers sorts members names ws ts i below a c place r
@@ -174,8 +173,8 @@ module _ (sorts members names ws ts : List ℕ) (i : ℕ) (found : Found) (at : 
         let n = as_union (tables_of l) below e k x.0 x.1 (subst (λ (y : Shape). Reads (tables_of l) below e k y) x.2 m) in
         let y : both n.vs n.ws ≡ vs = same_set (both n.vs n.ws) vs (n.is ∙ q) in
         let hs' = subst (λ (us : Values). HaveSort us Loose (tables_of l) row) (sym y) hs in
-        let p₁ = d₁ l g x.0 x.3 n.expected n.left (subst (λ (j : ℕ). read (tables_of l) j n.expected x.0 ≡ ok n.left) (up below z) n.left-was) n.vs n.left_is row (left-sorts (tables_of l) row n.vs n.ws hs') in
-        let p₂ = d₂ l g x.1 x.4 n.expected n.right (subst (λ (j : ℕ). read (tables_of l) j n.expected x.1 ≡ ok n.right) (up below z) n.right-was) n.ws n.right_is row (right-sorts (tables_of l) row n.vs n.ws hs') in
+        let p₁ = d₁ l g x.0 x.3 n.expected n.left (subst (λ (j : ℕ). read (tables_of l) j n.expected x.0 ≡ Ok n.left) (up below z) n.left-was) n.vs n.left_is row (left-sorts (tables_of l) row n.vs n.ws hs') in
+        let p₂ = d₂ l g x.1 x.4 n.expected n.right (subst (λ (j : ℕ). read (tables_of l) j n.expected x.1 ≡ Ok n.right) (up below z) n.right-was) n.ws n.right_is row (right-sorts (tables_of l) row n.vs n.ws hs') in
         subst (λ (us : Values). Lays (run (texts us)) (run (texts (normals us))) a c place r) y
         (lays_as (sym (run-both n.vs n.ws)) (sym (run-normals n.vs n.ws)) (lays_then p₁ p₂)))
 

@@ -1,9 +1,9 @@
 -- A value opened by the node that stands there, and what is written once it is: one law for each way out.
 -- Assumes nothing.
+use Rattle.std.proofs.Common.{Option, Ok}
 use mathlib.Core.Path.{◌≡◌, refl, sym, ap, ◌∙◌, subst}
 use mathlib.Core.Bool.{false}
 use mathlib.Core.List.{List, [], ◌∷◌}
-use mathlib.Core.Option.{Option}
 use Prim.Native.Nat.{ℕ, suc, ◌+◌, ◌-◌, ◌*◌, ◌/◌, ◌%◌, ◌^◌}
 use native.Mathlib.Omega.{arith}
 use types.Run.{OneOf, miss}
@@ -18,7 +18,6 @@ use Rattle.arena.specs.Tree.{Tree, Trees, bit_vec as bits, numeral, string as qu
 use Rattle.tables.specs.Layout.{Lent, tables_of}
 use Rattle.tables.specs.Sort.{Tables}
 use Rattle.shapes.specs.Shows.{Standing}
-use Rattle.sorts.specs.Result.{ok}
 use Rattle.values.specs.Value.{Value, v_string, v_bits, v_set}
 use Rattle.values.specs.Text.{text}
 use Rattle.values.specs.Normal.{normal}
@@ -60,7 +59,7 @@ word-plain T a e s row v (r-member i m h k) = refl
 -- a value opened, by the node that stands there
 module _ (sorts members names ws ts : List ℕ) (i : ℕ) (n : Node) (there : n ≡ node_at ws i) (a b : List ℕ) where
   abbrev Arm : Opened → Node → Type 0
-  Arm o x = (l : Lent) → Given sorts members names l → (t : Tree) → Standing t ws ts i → Tells ws ts x t → (below : ℕ) (e : Option ℕ) (k : Lit) → read (tables_of l) (suc below) e t ≡ ok k →
+  Arm o x = (l : Lent) → Given sorts members names l → (t : Tree) → Standing t ws ts i → Tells ws ts x t → (below : ℕ) (e : Option ℕ) (k : Lit) → read (tables_of l) (suc below) e t ≡ Ok k →
       (row : ℕ) → HasSort k.value Loose (tables_of l) row → Opens (tables_of l) ws ts below k.value a b o
 
   by-node : (o : Opened) (x : Node) → n ≡ x → Arm o x → OpensValue sorts members names ws ts i a b o
@@ -69,7 +68,7 @@ module _ (sorts members names ws ts : List ℕ) (i : ℕ) (n : Node) (there : n 
   pub node-bits : (r w low high : ℕ) → n ≡ Node.BitVec w low high → Offers a b 0 (text (v_bits w ((low + high * 2 ^ 64) % 2 ^ w))) r → OpensValue sorts members names ws ts i a b (Opened.Whole r)
   unfolding read_with normal
   node-bits r w low high e f = by-node (Opened.Whole r) (Node.BitVec w low high) e (λ l g t s d below y k m row hs.
-      let q = went _ _ k (subst (λ (x : Tree). read (tables_of l) (suc below) y x ≡ ok k) d.1 m) in
+      let q = went _ _ k (subst (λ (x : Tree). read (tables_of l) (suc below) y x ≡ Ok k) d.1 m) in
       let z : low + high * 2 ^ 64 ≡ d.0 = whole d.0 low high d.2 d.3 in
       let v : v_bits w (d.0 % 2 ^ w) ≡ k.value = ap (λ (x : Lit). x.value) (ok_same q.next) in
       writes_as (v_bits w ((low + high * 2 ^ 64) % 2 ^ w)) k.value (ap (λ (x : ℕ). v_bits w (x % 2 ^ w)) z ∙ v) a b r (writes-plain (v_bits w ((low + high * 2 ^ 64) % 2 ^ w)) refl f))
@@ -80,25 +79,25 @@ module _ (sorts members names ws ts : List ℕ) (i : ℕ) (n : Node) (there : n 
   pub node-string : (r size offset : ℕ) → n ≡ Node.String size offset → Offers a b 0 (text (v_string (text_at ts offset size))) r → OpensValue sorts members names ws ts i a b (Opened.Whole r)
   unfolding read_with normal
   node-string r size offset e f = by-node (Opened.Whole r) (Node.String size offset) e (λ l g t s d below y k m row hs.
-      let q = went _ _ k (subst (λ (x : Tree). read (tables_of l) (suc below) y x ≡ ok k) d.1 m) in
+      let q = went _ _ k (subst (λ (x : Tree). read (tables_of l) (suc below) y x ≡ Ok k) d.1 m) in
       let v : v_string d.0 ≡ k.value = ap (λ (x : Lit). x.value) (ok_same q.next) in
       writes_as (v_string (text_at ts offset size)) k.value (ap v_string d.2 ∙ v) a b r (writes-plain (v_string (text_at ts offset size)) refl f))
 
   pub node-word : (r size offset : ℕ) → n ≡ Node.Symbol size offset → WordText members names (text_at ts offset size) a b r → OpensValue sorts members names ws ts i a b (Opened.Whole r)
   unfolding read_with
   node-word r size offset e f = by-node (Opened.Whole r) (Node.Symbol size offset) e (λ l g t s d below y k m row hs.
-      let m' = subst (λ (x : Tree). read (tables_of l) (suc below) y x ≡ ok k) d.1 m in
+      let m' = subst (λ (x : Tree). read (tables_of l) (suc below) y x ≡ Ok k) d.1 m in
       let o = subst (λ (x : List ℕ). WordText members names x a b r) d.2 f l g.members-are g.names-are k m' in
       writes-plain k.value (word-plain (tables_of l) below y d.0 k.row k.value (reading (tables_of l) false below y (symbol d.0) k m')) o)
 
   pub node-app : (o : Opened) (many next : ℕ) → n ≡ Node.App many next → OpensApp sorts names ws ts i a b o → OpensValue sorts members names ws ts i a b o
   node-app o many next e f = by-node o (Node.App many next) e (λ l g t s d below y k m row hs.
-      f l g.sorts-are g.names-are d.0 (subst (λ (x : Tree). Standing x ws ts i) d.1 s) below y k (subst (λ (x : Tree). read (tables_of l) (suc below) y x ≡ ok k) d.1 m) row hs)
+      f l g.sorts-are g.names-are d.0 (subst (λ (x : Tree). Standing x ws ts i) d.1 s) below y k (subst (λ (x : Tree). read (tables_of l) (suc below) y x ≡ Ok k) d.1 m) row hs)
 
   -- a numeral is no literal
   pub node-other : (o : Opened) → OneOf (1 ∷ 5 ∷ []) (tag_of NodeType.the_type n) → OpensValue sorts members names ws ts i a b o
   unfolding read_with
-  node-other o h = by-node o n refl (λ l g t s d below y k m row hs. go n h t d (λ j e. refuses (subst (λ (x : Tree). read (tables_of l) (suc below) y x ≡ ok k) e m)))
+  node-other o h = by-node o n refl (λ l g t s d below y k m row hs. go n h t d (λ j e. refuses (subst (λ (x : Tree). read (tables_of l) (suc below) y x ≡ Ok k) e m)))
     where
       go : {R : Type 0} (n : Node) → OneOf (1 ∷ 5 ∷ []) (tag_of NodeType.the_type n) → (t : Tree) → Tells ws ts n t → ((j : ℕ) → t ≡ numeral j → R) → R
       go (Node.BitVec w low high) h t d f = absurd (miss (1 ∷ 5 ∷ []) 0 tt h)
@@ -112,13 +111,13 @@ module _ (sorts members names ws ts : List ℕ) (i : ℕ) (n : Node) (there : n 
 module _ (sorts members names ws ts : List ℕ) (i allow : ℕ) where
   pub value_nested : (a b : List ℕ) (r : ℕ) → allow ≡ 0 → WritesValue sorts members names ws ts i allow a b r
   unfolding read_with
-  value_nested a b r z l g t s e k m = refuses (subst (λ (j : ℕ). read (tables_of l) j e t ≡ ok k) z m)
+  value_nested a b r z l g t s e k m = refuses (subst (λ (j : ℕ). read (tables_of l) j e t ≡ Ok k) z m)
 
   module _ (nonzero : allow ≡ 0 → ⊥) (a b : List ℕ) (o : Opened) (opened : OpensValue sorts members names ws ts i a b o) where
-    deeper : (l : Lent) (t : Tree) (e : Option ℕ) (k : Lit) → read (tables_of l) allow e t ≡ ok k → read (tables_of l) (suc (allow - 1)) e t ≡ ok k
-    deeper l t e k m = subst (λ (j : ℕ). read (tables_of l) j e t ≡ ok k) (up allow nonzero) m
+    deeper : (l : Lent) (t : Tree) (e : Option ℕ) (k : Lit) → read (tables_of l) allow e t ≡ Ok k → read (tables_of l) (suc (allow - 1)) e t ≡ Ok k
+    deeper l t e k m = subst (λ (j : ℕ). read (tables_of l) j e t ≡ Ok k) (up allow nonzero) m
 
-    opened_as : (x : Opened) → o ≡ x → (l : Lent) → Given sorts members names l → (t : Tree) → Standing t ws ts i → (e : Option ℕ) (k : Lit) → read (tables_of l) allow e t ≡ ok k →
+    opened_as : (x : Opened) → o ≡ x → (l : Lent) → Given sorts members names l → (t : Tree) → Standing t ws ts i → (e : Option ℕ) (k : Lit) → read (tables_of l) allow e t ≡ Ok k →
         (row : ℕ) → HasSort k.value Loose (tables_of l) row → Opens (tables_of l) ws ts (allow - 1) k.value a b x
     opened_as x is l g t s e k m row hs = subst (λ (y : Opened). Opens (tables_of l) ws ts (allow - 1) k.value a b y) is (opened l g t s (allow - 1) e k (deeper l t e k m) row hs)
 

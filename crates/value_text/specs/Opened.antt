@@ -1,6 +1,5 @@
 -- Document 01, "The listing": what is left where a value was opened: the text of a value without another one in it, or what stands before the fields or the members of the others; and a set closed.
-use Rattle.std.specs.Prelude.{◌≡◌, false, List, ◌++◌, ℕ, suc}
-use Rattle.std.proofs.Math.Option.{Option}
+use Rattle.std.specs.Prelude.{◌≡◌, false, List, ◌++◌, ℕ, suc, Option, Ok}
 use Rattle.ground.specs.Bytes.{bytes}
 use Rattle.lent.specs.Put.{Offers}
 use Rattle.runs.specs.Run.{run}
@@ -9,7 +8,6 @@ use Rattle.tables.specs.Layout.{Lent, tables_of}
 use Rattle.tables.specs.Sort.{Tables}
 use Rattle.shapes.specs.Shape.{made}
 use Rattle.shapes.specs.Shows.{Standing, StandingAll, Reads}
-use Rattle.sorts.specs.Result.{ok}
 use Rattle.sorts.specs.Sort.{read_sort}
 use Rattle.values.specs.Value.{Value, Values, v_set}
 use Rattle.values.specs.Text.{text, texts}
@@ -43,18 +41,18 @@ ClosesSet entry exit place end r =
 -- of the value that is read at a node with so many levels below it, and has a sort
 abbrev pub OpensValue : List ℕ → List ℕ → List ℕ → List ℕ → List ℕ → ℕ → List ℕ → List ℕ → Opened → Type 0
 OpensValue sorts members names ws ts i entry exit o =
-    (l : Lent) → Given sorts members names l → (t : Tree) → Standing t ws ts i → (below : ℕ) (expected : Option ℕ) (k : Lit) → read (tables_of l) (suc below) expected t ≡ ok k →
+    (l : Lent) → Given sorts members names l → (t : Tree) → Standing t ws ts i → (below : ℕ) (expected : Option ℕ) (k : Lit) → read (tables_of l) (suc below) expected t ≡ Ok k →
     (row : ℕ) → HasSort k.value Loose (tables_of l) row → Opens (tables_of l) ws ts below k.value entry exit o
 
 -- the same of an application, and of that of a name
 module _ (sorts names ws ts : List ℕ) where
   abbrev pub OpensApp : ℕ → List ℕ → List ℕ → Opened → Type 0
   OpensApp i entry exit o =
-      (l : Lent) → l.sorts ≡ sorts → l.names ≡ names → (us : Trees) → Standing (app us) ws ts i → (below : ℕ) (expected : Option ℕ) (k : Lit) → read (tables_of l) (suc below) expected (app us) ≡ ok k →
+      (l : Lent) → l.sorts ≡ sorts → l.names ≡ names → (us : Trees) → Standing (app us) ws ts i → (below : ℕ) (expected : Option ℕ) (k : Lit) → read (tables_of l) (suc below) expected (app us) ≡ Ok k →
       (row : ℕ) → HasSort k.value Loose (tables_of l) row → Opens (tables_of l) ws ts below k.value entry exit o
 
   abbrev pub OpensMade : ℕ → ℕ → ℕ → ℕ → List ℕ → List ℕ → Opened → Type 0
   OpensMade offset size first many entry exit o =
       (l : Lent) → l.sorts ≡ sorts → l.names ≡ names → (f : List ℕ) (us : Trees) → Reads f ts offset size → StandingAll us ws ts first many → (below : ℕ) (expected : Option ℕ) (k : Lit) →
-      app_lit (tables_of l) (λ t. read_sort (tables_of l) below t) (λ e u. read (tables_of l) below e u) false expected (made f us) ≡ ok k →
+      app_lit (tables_of l) (λ t. read_sort (tables_of l) below t) (λ e u. read (tables_of l) below e u) false expected (made f us) ≡ Ok k →
       (row : ℕ) → HasSort k.value Loose (tables_of l) row → Opens (tables_of l) ws ts below k.value entry exit o

@@ -1,13 +1,11 @@
 -- Document 01, "The listing": what is left where a value is written: its text, sets in order without repeats, in the room of the text as it was read.
-use Rattle.std.specs.Prelude.{◌≡◌, List, [], ◌∷◌, ◌++◌, ℕ, zero, suc, ◌≤◌, length}
-use Rattle.std.proofs.Math.Option.{Option}
+use Rattle.std.specs.Prelude.{◌≡◌, List, [], ◌∷◌, ◌++◌, ℕ, zero, suc, ◌≤◌, length, Option, Ok}
 use Rattle.ground.specs.Bytes.{bytes}
 use Rattle.runs.specs.Run.{run}
 use Rattle.arena.specs.Tree.{Tree, Trees, nil, cons}
 use Rattle.tables.specs.Layout.{Lent, tables_of}
 use Rattle.tables.specs.Sort.{Tables}
 use Rattle.shapes.specs.Shows.{Standing, StandingAll}
-use Rattle.sorts.specs.Result.{ok}
 use Rattle.values.specs.Value.{Value, Values, v_set, v_nil, v_cons}
 use Rattle.values.specs.Text.{text, texts}
 use Rattle.values.specs.Normal.{normal, normals}
@@ -25,7 +23,7 @@ pub record Given (sorts members names : List ℕ) (l : Lent) : Type 0 where
 -- the trees are read as the values, each of some sort
 pub data Listed (T : Tables) (allow : ℕ) : Trees → Values → Type 0 where
   l_nil : Listed T allow nil v_nil
-  l_cons : {u : Tree} {us : Trees} {vs : Values} (expected : Option ℕ) (k : Lit) → read T allow expected u ≡ ok k → (row : ℕ) → HasSort k.value Loose T row → Listed T allow us vs →
+  l_cons : {u : Tree} {us : Trees} {vs : Values} (expected : Option ℕ) (k : Lit) → read T allow expected u ≡ Ok k → (row : ℕ) → HasSort k.value Loose T row → Listed T allow us vs →
       Listed T allow (cons u us) (v_cons k.value vs)
 
 -- what stands before part i
@@ -46,7 +44,7 @@ module _ (sorts members names ws ts : List ℕ) where
   -- of the value that is read at a node, with so many levels, and has a sort
   abbrev pub ReadAt : ℕ → ℕ → (Value → Type 0) → Type 0
   ReadAt i allow P =
-      (l : Lent) → Given sorts members names l → (t : Tree) → Standing t ws ts i → (expected : Option ℕ) (k : Lit) → read (tables_of l) allow expected t ≡ ok k →
+      (l : Lent) → Given sorts members names l → (t : Tree) → Standing t ws ts i → (expected : Option ℕ) (k : Lit) → read (tables_of l) allow expected t ≡ Ok k →
       (row : ℕ) → HasSort k.value Loose (tables_of l) row → P k.value
 
   -- the value at a node at the front, and at a place
@@ -59,7 +57,7 @@ module _ (sorts members names ws ts : List ℕ) where
   -- the set at a node, with so many levels below it: its members, each ended
   abbrev pub SetAt : ℕ → ℕ → (Values → Type 0) → Type 0
   SetAt i below P =
-      (l : Lent) → Given sorts members names l → (t : Tree) → Standing t ws ts i → (expected : Option ℕ) (k : Lit) → read (tables_of l) (suc below) expected t ≡ ok k →
+      (l : Lent) → Given sorts members names l → (t : Tree) → Standing t ws ts i → (expected : Option ℕ) (k : Lit) → read (tables_of l) (suc below) expected t ≡ Ok k →
       (vs : Values) → k.value ≡ v_set vs → (row : ℕ) → HaveSort vs Loose (tables_of l) row → P vs
 
   abbrev pub WritesMembers : ℕ → ℕ → List ℕ → List ℕ → ℕ → ℕ → Type 0

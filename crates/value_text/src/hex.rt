@@ -11,9 +11,9 @@ fn digit(worth: u8) -> u8
     ensures { result ≡ hex_digit worth }
 {
     if worth < 10 {
-        return 48 + worth;
+        return b'0' + worth;
     }
-    87 + worth
+    b'a' + (worth - 10)
 }
 
 fn high_digit(byte: u8) -> u8
@@ -38,19 +38,17 @@ pub fn write_hex(bytes: &[u8], out: &mut [u8], at: usize) -> usize
     if (out.len() - at) / 2 < bytes.len() {
         return at;
     }
-    let mut i = 0;
     let mut to = at;
-    while i < bytes.len() {
-        out[to] = high_digit(bytes[i]);
-        out[to + 1] = low_digit(bytes[i]);
+    for &byte in bytes {
+        out[to] = high_digit(byte);
+        out[to + 1] = low_digit(byte);
         to += 2;
-        i += 1;
     }
     to
 }
 
 // 2^60: what the lowest digit of the high word is worth in the low word, once both are a digit shorter.
-const TOP: u64 = 1152921504606846976;
+const TOP: u64 = 1 << 60;
 
 fn shortened(number: Pair) -> Pair
     ensures { value result ≡ value number / 16 }
@@ -75,9 +73,7 @@ fn put_digits(number: Pair, out: &mut [u8], start: usize, end: usize)
     ensures { out.new ≡ take start out.old ++ (hex (end - start) (value number) ++ drop end out.old) }
 {
     let mut rest = number;
-    let mut at = end;
-    while start < at {
-        at -= 1;
+    for at in (start..end).rev() {
         out[at] = last_digit(rest);
         rest = shortened(rest);
     }

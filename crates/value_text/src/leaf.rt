@@ -13,13 +13,13 @@ ghost use Rattle.value_text.specs.Leaf.{WordText, MemberText, EntityText, Indexe
 
 use crate::hex::{write_digits, write_hex};
 use arena::{Node, node_at, same};
-use decimals::{digit_count, signed_length, write_natural, write_signed};
+use decimals::{write_natural, write_signed};
 use forms::parse_number;
 use lent::put;
 use literals::hex_width;
 use shapes::Kind;
-use tables::{Found, clamp, find_member, word};
-use words::{Pair, Parsed, low_bits};
+use tables::{clamp, find_member, word};
+use words::{Pair, low_bits};
 
 // A number in decimal at a place, where there is room for it; answers the place after it.
 pub fn write_number(number: u64, out: &mut [u8], at: usize) -> usize
@@ -28,30 +28,27 @@ pub fn write_number(number: u64, out: &mut [u8], at: usize) -> usize
     if out.len() < at {
         return at;
     }
-    let need = digit_count(number);
-    if out.len() - at < need {
-        return at;
+    match write_natural(number, &mut out[at..]) {
+        Ok(long) => at + long,
+        Err(_) => at,
     }
-    write_natural(number, &mut out[at..]);
-    at + need
 }
 
 // The same of a signed number.
+// Stays: beside `write_number`, since one function for both would take the writer as a closure, with clauses on the rest of the buffer.
 fn write_integer(number: i64, out: &mut [u8], at: usize) -> usize
     ensures { Offers out.old out.new at (signed_decimal number) result }
 {
     if out.len() < at {
         return at;
     }
-    let need = signed_length(number);
-    if out.len() - at < need {
-        return at;
+    match write_signed(number, &mut out[at..]) {
+        Ok(long) => at + long,
+        Err(_) => at,
     }
-    write_signed(number, &mut out[at..]);
-    at + need
 }
 
-const COLON: u8 = 58;
+const COLON: u8 = b':';
 
 // What a text begins with: letters, a number in decimal, and a byte.
 pub fn write_head(letters: &[u8], number: u64, last: u8, out: &mut [u8]) -> usize
@@ -79,8 +76,8 @@ pub fn write_indexed(text: &[u8], offset: u64, size: u64, width: u64, out: &mut 
     let end = range.end;
     let parsed = parse_number(&text[start..end]);
     match parsed {
-        Parsed::Number(number) => write_bits(number, width, out),
-        Parsed::Refused(_) => 0,
+        Ok(number) => write_bits(number, width, out),
+        Err(_) => 0,
     }
 }
 
@@ -131,10 +128,7 @@ fn write_member(members: &[u64], names: &[u8], row: usize, out: &mut [u8]) -> us
 fn is_truth(name: &[u8]) -> bool
     ensures { result ≡ (same_text name.now (bytes "true") || same_text name.now (bytes "false")) }
 {
-    if same(name, b"true") {
-        return true;
-    }
-    same(name, b"false")
+    same(name, b"true") || same(name, b"false")
 }
 
 // `true`, `false`, which are written as they are read, or an enum member.
@@ -146,8 +140,8 @@ fn write_name(members: &[u64], names: &[u8], name: &[u8], out: &mut [u8]) -> usi
     }
     let found = find_member(members, names, name);
     match found {
-        Found::Row(row) => write_member(members, names, row, out),
-        Found::NoRow => 0,
+        Some(row) => write_member(members, names, row, out),
+        None => 0,
     }
 }
 
@@ -173,9 +167,9 @@ fn letter_of(kind: Kind) -> u8
     ensures { mark (ext_of kind) ≡ result ∷ bytes ":" }
 {
     match kind {
-        Kind::Decimal => 100,
-        Kind::Datetime => 116,
-        Kind::Duration => 117,
+        Kind::Decimal => b'd',
+        Kind::Datetime => b't',
+        Kind::Duration => b'u',
     }
 }
 

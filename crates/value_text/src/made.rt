@@ -1,7 +1,7 @@
 // Whether a name is an entity's or a record's.
 ghost use Rattle.value_text.specs.Made.{MadeOf, MadeRow};
 
-use tables::{Found, SortRow, find_sort_name, sort_at};
+use tables::{SortRow, find_sort_name, sort_at};
 
 // Which of the two, and its row.
 #[derive(Clone, Copy)]
@@ -17,7 +17,7 @@ fn made_row(sorts: &[u64], row: usize) -> Made
     let sort = sort_at(sorts, row);
     match sort {
         SortRow::Entity => Made::Entity(row),
-        SortRow::Record { first: _, size: _ } => Made::Record(row),
+        SortRow::Record { .. } => Made::Record(row),
         _ => Made::NoName,
     }
 }
@@ -27,7 +27,7 @@ pub fn made_of(sorts: &[u64], names: &[u8], name: &[u8]) -> Made
 {
     let found = find_sort_name(sorts, names, name);
     match found {
-        Found::Row(row) => made_row(sorts, row),
-        Found::NoRow => Made::NoName,
+        Some(row) => made_row(sorts, row),
+        None => Made::NoName,
     }
 }

@@ -23,7 +23,7 @@ pub enum Opened {
     Set(usize),
 }
 
-const PAREN: u8 = 40;
+const PAREN: u8 = b'(';
 
 // (NAME ..)
 fn open_made(
@@ -70,8 +70,8 @@ fn open_app(
 {
     let shape = shape_at(nodes, text, at);
     match shape {
-        Found::AsNone { sort: _ } => Opened::Whole(put(b"none", out, 0)),
-        Found::AsSome { sort: _, value } => Opened::Fields {
+        Found::AsNone { .. } => Opened::Whole(put(b"none", out, 0)),
+        Found::AsSome { value, .. } => Opened::Fields {
             first: value,
             count: 1,
             place: put(b"some(", out, 0),
@@ -81,15 +81,15 @@ fn open_app(
             count: 1,
             place: put(b"some(", out, 0),
         },
-        Found::AsEmpty { sort: _ }
-        | Found::Singleton { value: _ }
-        | Found::Union { left: _, right: _ } => Opened::Set(put(b"{", out, 0)),
+        Found::AsEmpty { .. } | Found::Singleton { .. } | Found::Union { .. } => Opened::Set(put(
+            b"{", out, 0,
+        )),
         Found::Extension { kind, low } => Opened::Whole(write_extension(kind, low, out)),
         Found::Indexed {
             offset,
             size,
             low,
-            high: _,
+            ..
         } => Opened::Whole(write_indexed(text, offset, size, low, out)),
         Found::Made {
             offset,
@@ -122,10 +122,7 @@ pub fn open_value(
         Node::Symbol { size, offset } => {
             Opened::Whole(write_word(members, names, text, offset, size, out))
         }
-        Node::App {
-            children: _,
-            end: _,
-        } => open_app(sorts, names, nodes, text, at, out),
+        Node::App { .. } => open_app(sorts, names, nodes, text, at, out),
         _ => Opened::Whole(0),
     }
 }

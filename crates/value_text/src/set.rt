@@ -7,9 +7,9 @@ use literals::plus;
 use moves::replace;
 use runs::{END, arrange};
 
-const COMMA: u8 = 44;
+const COMMA: u8 = b',';
 
-const BRACE: u8 = 125;
+const BRACE: u8 = b'}';
 
 // The records in order without repeats, a comma between two and a brace behind the last; answers how many bytes. The run has a record.
 fn close(run: &mut [u8], scratch: &mut [u8]) -> usize

@@ -101,7 +101,7 @@ fn write_members(
 }
 
 // What stands before field i.
-fn write_comma(i: usize, out: &mut [u8], place: usize) -> usize
+fn write_comma(i: u64, out: &mut [u8], place: usize) -> usize
     ensures { Offers out.old out.new place (comma i) result }
 {
     if i == 0 {
@@ -129,14 +129,12 @@ fn write_fields(
 {
     let mut at = first;
     let mut to = place;
-    let mut i: usize = 0;
-    while (i as u64) < count {
+    for i in 0..count {
         let one = write_comma(i, out, to);
         to = write_inside(
             sorts, members, names, nodes, text, at, allow, scratch, out, one,
         );
         at = after(nodes, at);
-        i += 1;
     }
     to
 }

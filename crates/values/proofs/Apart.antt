@@ -1,8 +1,8 @@
 -- The text tells plain values apart, whatever the tables; and values that have a sort are plain, where the tables' rows and widths are words.
 -- Assumes nothing.
+use Rattle.std.proofs.Common.{Some}
 use mathlib.Core.Path.{◌≡◌, ap, sym, subst}
 use mathlib.Core.List.{List, [], ◌++◌}
-use mathlib.Core.Option.{some}
 use Prim.Native.Nat.{ℕ, ◌<◌, ◌^◌}
 use Rattle.ground.specs.Lists.{at}
 use Rattle.tables.specs.Sort.{Sort, bit_vec, Tables}
@@ -39,7 +39,7 @@ plain-tell v w a b h k f g e = tell-by Both Each plain v w a b (h, k) f g e
 pub plain-tells : (v w : Value) → PlainValue v → PlainValue w → text v ≡ text w → v ≡ w
 plain-tells v w h k e = (plain-tell v w [] [] h k tt tt (ap (λ (x : List ℕ). x ++ []) e)).0
 
-module _ (A : Values → Type 0) (T : Tables) (rows : (i : ℕ) (s : Sort) → at T.sorts i ≡ some s → i < 2 ^ 64) (widths : (i w : ℕ) → at T.sorts i ≡ some (bit_vec w) → w < 2 ^ 64) where
+module _ (A : Values → Type 0) (T : Tables) (rows : (i : ℕ) (s : Sort) → at T.sorts i ≡ Some s → i < 2 ^ 64) (widths : (i w : ℕ) → at T.sorts i ≡ Some (bit_vec w) → w < 2 ^ 64) where
   mutual
     pub sort-plain : (v : Value) (r : ℕ) → HasSort v A T r → PlainValue v
     sort-plain (v_bool b) r h = tt

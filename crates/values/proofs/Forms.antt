@@ -4,7 +4,8 @@ use mathlib.Core.Path.{◌≡◌, refl, sym, ◌∙◌, subst}
 use mathlib.Core.Bool.{Bool, true}
 use mathlib.Core.List.{List}
 use mathlib.Core.Logic.{◌⊎◌, inl, inr}
-use mathlib.Core.Option.{some, some-injective}
+use Rattle.std.proofs.Common.{Some}
+use Rattle.ground.proofs.Options.{some-same}
 use Prim.Native.Nat.{ℕ, ◌<◌, ◌^◌}
 use lib.IntN.{ℤ}
 use Rattle.ground.specs.Lists.{at}
@@ -26,10 +27,10 @@ module _ (A : Values → Type 0) (T : Tables) (row : ℕ) where
   Form (record_of n fs) v = (us : Values) × FieldSorts us A T fs × (v ≡ v_record row us)
 
   -- at the row's own sort, and so at the one that is known
-  known : (v : Value) (s t : Sort) → at T.sorts row ≡ some s → at T.sorts row ≡ some t → Form s v → Form t v
-  known v s t h k f = subst (λ (x : Sort). Form x v) (some-injective s t (sym h ∙ k)) f
+  known : (v : Value) (s t : Sort) → at T.sorts row ≡ Some s → at T.sorts row ≡ Some t → Form s v → Form t v
+  known v s t h k f = subst (λ (x : Sort). Form x v) (some-same (sym h ∙ k)) f
 
-  pub form : (v : Value) → HasSort v A T row → (s : Sort) → at T.sorts row ≡ some s → Form s v
+  pub form : (v : Value) → HasSort v A T row → (s : Sort) → at T.sorts row ≡ Some s → Form s v
   form (v_bool b) h s k = known _ _ s h k (b, refl)
   form (v_string t) h s k = known _ _ s h.0 k (t, h.1, refl)
   form (v_ext e z) h s k = known _ _ s h.0 k (z, h.1, refl)

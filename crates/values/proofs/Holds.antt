@@ -1,13 +1,13 @@
 -- A value that holds members is their set.
 -- Assumes nothing.
+use Rattle.std.proofs.Common.{Some}
 use mathlib.Core.Path.{◌≡◌, ap}
-use mathlib.Core.Option.{some}
 use Prim.Native.Nat.{ℕ}
 use native.Mathlib.Omega.{arith}
 use Rattle.values.specs.Holds.{held}
 use Rattle.values.specs.Value.{Value, Values, v_bool, v_string, v_ext, v_bits, v_none, v_some, v_set, v_entity, v_record}
 
-pub held-set : (v : Value) (vs : Values) → held v ≡ some vs → v ≡ v_set vs
+pub held-set : (v : Value) (vs : Values) → held v ≡ Some vs → v ≡ v_set vs
 held-set (v_bool b) vs e = let z : ◌≡◌ {A = ℕ} 0 1 = cc in absurd (omega arith)
 held-set (v_string s) vs e = let z : ◌≡◌ {A = ℕ} 0 1 = cc in absurd (omega arith)
 held-set (v_ext x z) vs e = let z : ◌≡◌ {A = ℕ} 0 1 = cc in absurd (omega arith)

@@ -1,6 +1,5 @@
 -- Document 01, "Sorts and literals": what it is for a value to have the sort of a row; a text is UTF-8, as the arena's are.
-use Rattle.std.specs.Prelude.{◌≡◌, true, List, [], ◌∷◌, ℕ, ◌<◌, ◌^◌}
-use Rattle.std.proofs.Math.Option.{some}
+use Rattle.std.specs.Prelude.{◌≡◌, true, List, [], ◌∷◌, ℕ, ◌<◌, ◌^◌, Some}
 use Rattle.ground.specs.Lists.{at}
 use Rattle.utf8.specs.Octets.{utf8}
 use Rattle.order.specs.Order.{before}
@@ -22,13 +21,13 @@ Loose vs = Unit {0}
 -- the row is an option or a set, and the one inside it is as asked
 pub record Of (T : Tables) (make : ℕ → Sort) (row : ℕ) (P : ℕ → Type 0) : Type 0 where
   pub inner : ℕ
-  pub here : at T.sorts row ≡ some (make inner)
+  pub here : at T.sorts row ≡ Some (make inner)
   pub has : P inner
 
 -- the value's own row is that of an entity
 pub record Named (T : Tables) (own row : ℕ) (s : List ℕ) : Type 0 where
   pub name : List ℕ
-  pub here : at T.sorts row ≡ some (entity_of name)
+  pub here : at T.sorts row ≡ Some (entity_of name)
   pub same : own ≡ row
   pub has : utf8 s ≡ true
 
@@ -36,7 +35,7 @@ pub record Named (T : Tables) (own row : ℕ) (s : List ℕ) : Type 0 where
 pub record Fields (T : Tables) (own row : ℕ) (P : List ℕ → Type 0) : Type 0 where
   pub name : List ℕ
   pub fields : List ℕ
-  pub here : at T.sorts row ≡ some (record_of name fields)
+  pub here : at T.sorts row ≡ Some (record_of name fields)
   pub same : own ≡ row
   pub has : P fields
 
@@ -51,10 +50,10 @@ pub record Field (P : ℕ → Type 0) (Q : List ℕ → Type 0) (fields : List �
 -- A says what is asked of a set's members: Loose of a literal as written, Ascending of a value
 abbrev mutual
   pub HasSort : Value → (Values → Type 0) → Tables → ℕ → Type 0
-  HasSort (v_bool b) A T r = at T.sorts r ≡ some bool
-  HasSort (v_string s) A T r = (at T.sorts r ≡ some string) × (utf8 s ≡ true)
-  HasSort (v_ext e z) A T r = (at T.sorts r ≡ some (ext e)) × InWord z
-  HasSort (v_bits w n) A T r = (at T.sorts r ≡ some (bit_vec w)) × (n < 2 ^ w)
+  HasSort (v_bool b) A T r = at T.sorts r ≡ Some bool
+  HasSort (v_string s) A T r = (at T.sorts r ≡ Some string) × (utf8 s ≡ true)
+  HasSort (v_ext e z) A T r = (at T.sorts r ≡ Some (ext e)) × InWord z
+  HasSort (v_bits w n) A T r = (at T.sorts r ≡ Some (bit_vec w)) × (n < 2 ^ w)
   HasSort v_none A T r = Of T option_of r (λ q. Unit {0})
   HasSort (v_some v) A T r = Of T option_of r (λ q. HasSort v A T q)
   HasSort (v_set vs) A T r = Of T set_of r (λ q. HaveSort vs A T q) × A vs

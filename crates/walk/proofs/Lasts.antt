@@ -1,9 +1,9 @@
 -- The last definition of each name: one more definition replaces what its slot held and nothing else.
 -- Assumes nothing.
+use Rattle.std.proofs.Common.{None, Option, Some}
 use mathlib.Core.Path.{◌≡◌, refl, sym, ap, ◌∙◌, subst}
 use mathlib.Core.Bool.{Bool, true, false, cond}
 use mathlib.Core.List.{List, [], ◌∷◌, ◌++◌}
-use mathlib.Core.Option.{Option, none, some}
 use Prim.Native.Nat.{ℕ, ◌+◌, ◌*◌, ◌-◌, ◌/◌, ◌≤◌, ◌<◌}
 use native.Mathlib.Omega.{arith}
 use lib.Dec.{eqb}
@@ -32,17 +32,17 @@ module _ (l : Lent) (k : ℕ) where
   unfolding last_in
   last-append [] qs = sym (or_none _)
   last-append (p ∷ ps) qs =
-      ap (λ (o : Option Placed). or_else o (cond (eqb k (slot l p.it)) (some p) none)) (last-append ps qs)
-      ∙ or_assoc (last_in l k qs) (last_in l k ps) (cond (eqb k (slot l p.it)) (some p) none)
+      ap (λ (o : Option Placed). or_else o (cond (eqb k (slot l p.it)) (Some p) None)) (last-append ps qs)
+      ∙ or_assoc (last_in l k qs) (last_in l k ps) (cond (eqb k (slot l p.it)) (Some p) None)
 
-  last_one : (p : Placed) → last_in l k (p ∷ []) ≡ cond (eqb k (slot l p.it)) (some p) none
+  last_one : (p : Placed) → last_in l k (p ∷ []) ≡ cond (eqb k (slot l p.it)) (Some p) None
   unfolding last_in
   last_one p = refl
 
   -- one more, whose name has this slot or another one
-  last_more : (ps : List Placed) (p : Placed) (b : Bool) → eqb k (slot l p.it) ≡ b → last_in l k (ps ++ (p ∷ [])) ≡ or_else (cond b (some p) none) (last_in l k ps)
+  last_more : (ps : List Placed) (p : Placed) (b : Bool) → eqb k (slot l p.it) ≡ b → last_in l k (ps ++ (p ∷ [])) ≡ or_else (cond b (Some p) None) (last_in l k ps)
   last_more ps p b h =
-      last-append ps (p ∷ []) ∙ ap (λ (o : Option Placed). or_else o (last_in l k ps)) (last_one p ∙ ap (λ (c : Bool). cond c (some p) none) h)
+      last-append ps (p ∷ []) ∙ ap (λ (o : Option Placed). or_else o (last_in l k ps)) (last_one p ∙ ap (λ (c : Bool). cond c (Some p) None) h)
 
 -- two stores keep each place
 pub lt_two : (last : List ℕ) (i j a b : ℕ) {k : ℕ} → k < length last → k < length (set (set last i a) j b)
@@ -88,8 +88,8 @@ module _ (l : Lent) where
   HeldAs o last k = Holds o (word_at last k node_word) (word_at last k value_word) (word_at last k need_word)
 
   held_as : (o : Option Placed) (node value long node' value' long' : ℕ) → node ≡ node' → value ≡ value' → long ≡ long' → Holds o node' value' long' → Holds o node value long
-  held_as none node value long node' value' long' p q r h = (p ∙ h.0, q ∙ h.1, r ∙ h.2)
-  held_as (some x) node value long node' value' long' p q r h = record { node-is = p ∙ h.node-is; value-is = q ∙ h.value-is; long-is = r ∙ h.long-is }
+  held_as None node value long node' value' long' p q r h = (p ∙ h.0, q ∙ h.1, r ∙ h.2)
+  held_as (Some x) node value long node' value' long' p q r h = record { node-is = p ∙ h.node-is; value-is = q ∙ h.value-is; long-is = r ∙ h.long-is }
 
   kept_from : (n : ℕ) → n ≡ slots * stride → Kept l [] (replicate n 0)
   unfolding last_in
@@ -110,9 +110,9 @@ module _ (l : Lent) where
     roomy : slot l p.it * stride + need_word < length last
     roomy = omega (arith, h.full, low)
 
-    held_same : (k : ℕ) → k ≡ slot l p.it → HeldAs (some p) Next k
+    held_same : (k : ℕ) → k ≡ slot l p.it → HeldAs (Some p) Next k
     held_same k e =
-        subst (λ (j : ℕ). HeldAs (some p) Next j) (sym e)
+        subst (λ (j : ℕ). HeldAs (Some p) Next j) (sym e)
         (record {
           node-is = kept-node last (slot l p.it) p.node p.value (capped (size p.it)) roomy;
           value-is = kept-value last (slot l p.it) p.node p.value (capped (size p.it)) roomy;

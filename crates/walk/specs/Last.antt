@@ -1,6 +1,5 @@
 -- Document 01, "The model walk", a later definition replaces an earlier one: the words that hold the last definition of each name, three a slot.
-use Rattle.std.specs.Prelude.{◌≡◌, cond, List, [], ◌∷◌, ℕ, ◌+◌, ◌*◌, ◌<◌, eqb, length, get_or, set}
-use Rattle.std.proofs.Math.Option.{Option, none, some}
+use Rattle.std.specs.Prelude.{◌≡◌, cond, List, [], ◌∷◌, ℕ, ◌+◌, ◌*◌, ◌<◌, eqb, length, get_or, set, None, Option, Some}
 use Rattle.tables.specs.Layout.{Lent}
 use Rattle.tables.specs.Rules.{row_limit}
 use Rattle.literals.specs.Answer.{capped}
@@ -31,8 +30,8 @@ word_at last k j = get_or last (k * stride + j) 0
 
 -- the last one of a slot's name
 unfoldable pub last_in : Lent → ℕ → List Placed → Option Placed
-last_in l k [] = none
-last_in l k (p ∷ ps) = or_else (last_in l k ps) (cond (eqb k (slot l p.it)) (some p) none)
+last_in l k [] = None
+last_in l k (p ∷ ps) = or_else (last_in l k ps) (cond (eqb k (slot l p.it)) (Some p) None)
 
 -- the three words of a slot that a command gets
 abbrev pub kept : List ℕ → ℕ → ℕ → ℕ → ℕ → List ℕ
@@ -48,8 +47,8 @@ pub record Words (p : Placed) (node value long : ℕ) : Type 0 where
   pub long-is : long ≡ capped (size p.it)
 
 abbrev pub Holds : Option Placed → ℕ → ℕ → ℕ → Type 0
-Holds none node value long = (node ≡ 0) × (value ≡ 0) × (long ≡ 0)
-Holds (some p) node value long = Words p node value long
+Holds None node value long = (node ≡ 0) × (value ≡ 0) × (long ≡ 0)
+Holds (Some p) node value long = Words p node value long
 
 -- each slot holds the last definition of its name
 pub record Kept (l : Lent) (ps : List Placed) (last : List ℕ) : Type 0 where

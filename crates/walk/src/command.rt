@@ -6,38 +6,40 @@ ghost use Rattle.commands.specs.declared.form.Form.{Form};
 ghost use Rattle.walk.specs.Noted.{noted_as, NotesVariable, NotesFunction, NotesAt};
 
 use commands::{CommandFound, command_at};
-use definitions::{Measured, check_function, check_variable};
+use definitions::{check_function, check_variable};
 use refusals::Refusal;
-use tables::{Found, clamp, count, find_function, find_variable, word};
+use tables::{clamp, count, find_function, find_variable, word};
 
 #[derive(Clone, Copy)]
-pub enum Noted {
-    Skipped,
-    Defines {
-        slot: usize,
-        value: usize,
-        need: usize,
-    },
-    Refused(Refusal),
+pub struct Noted {
+    pub slot: usize,
+    pub value: usize,
+    pub need: usize,
 }
 
-pub fn noted_as(measured: Measured, slot: usize, value: usize) -> Noted
+pub fn noted_as(
+    measured: Result<usize, Refusal>,
+    slot: usize,
+    value: usize,
+) -> Result<Option<Noted>, Refusal>
     ensures { result ≡ noted_as measured slot value }
 {
-    match measured {
-        Measured::Need(need) => Noted::Defines { slot, value, need },
-        Measured::Refused(refusal) => Noted::Refused(refusal),
-    }
+    let need = measured?;
+    Ok(Some(Noted { slot, value, need }))
 }
 
 // The row of the variable that a text names.
-pub fn variable_row(variables: &[u64], names: &[u8], text: &[u8], offset: u64, size: u64) -> Found
+pub fn variable_row(
+    variables: &[u64],
+    names: &[u8],
+    text: &[u8],
+    offset: u64,
+    size: u64,
+) -> Option<usize>
     ensures { FindsVariable variables.now names.now (text_at text.now offset size) result }
 {
     let range = clamp(offset, size, text.len());
-    let start = range.start;
-    let end = range.end;
-    find_variable(variables, names, &text[start..end])
+    find_variable(variables, names, &text[range.start..range.end])
 }
 
 // A name that is not in the variable table is skipped unread.
@@ -54,20 +56,17 @@ fn note_variable(
     size: u64,
     sort: usize,
     value: usize,
-) -> Noted
+) -> Result<Option<Noted>, Refusal>
     ensures { NotesVariable (record { sorts = sorts.now; fields = fields.now; variables = variables.now; functions = functions.now; members = members.now; names = names.now }) nodes.now text.now offset size sort value result }
 {
-    let found = variable_row(variables, names, text, offset, size);
-    match found {
-        Found::Row(row) => {
-            let declared = word(variables, row, 2) as usize;
-            let measured = check_variable(
-                sorts, fields, members, names, nodes, text, declared, sort, value,
-            );
-            noted_as(measured, row, value)
-        }
-        Found::NoRow => Noted::Skipped,
-    }
+    let Some(row) = variable_row(variables, names, text, offset, size) else {
+        return Ok(None);
+    };
+    let declared = word(variables, row, 2) as usize;
+    let measured = check_variable(
+        sorts, fields, members, names, nodes, text, declared, sort, value,
+    );
+    noted_as(measured, row, value)
 }
 
 // A name that is not in the function table is skipped unread.
@@ -87,25 +86,20 @@ fn note_function(
     arg_sort: usize,
     sort: usize,
     body: usize,
-) -> Noted
+) -> Result<Option<Noted>, Refusal>
     ensures { NotesFunction (record { sorts = sorts.now; fields = fields.now; variables = variables.now; functions = functions.now; members = members.now; names = names.now }) nodes.now text.now offset size arg_offset arg_length arg_sort sort body result }
 {
     let range = clamp(offset, size, text.len());
-    let start = range.start;
-    let end = range.end;
-    let found = find_function(functions, names, &text[start..end]);
-    match found {
-        Found::Row(row) => {
-            let argument = word(functions, row, 2) as usize;
-            let result = word(functions, row, 3) as usize;
-            let measured = check_function(
-                sorts, fields, members, names, nodes, text, argument, result, arg_offset,
-                arg_length, arg_sort, sort, body,
-            );
-            noted_as(measured, count(variables) + row, body)
-        }
-        Found::NoRow => Noted::Skipped,
-    }
+    let Some(row) = find_function(functions, names, &text[range.start..range.end]) else {
+        return Ok(None);
+    };
+    let argument = word(functions, row, 2) as usize;
+    let result = word(functions, row, 3) as usize;
+    let measured = check_function(
+        sorts, fields, members, names, nodes, text, argument, result, arg_offset, arg_length,
+        arg_sort, sort, body,
+    );
+    noted_as(measured, count(variables) + row, body)
 }
 
 // The command at a node; any other shape than the two forms is 13.
@@ -119,10 +113,10 @@ pub fn check_command(
     nodes: &[u64],
     text: &[u8],
     at: usize,
-) -> Noted
+) -> Result<Option<Noted>, Refusal>
     ensures { NotesAt Form.Model (record { sorts = sorts.now; fields = fields.now; variables = variables.now; functions = functions.now; members = members.now; names = names.now }) nodes.now text.now at result }
 {
-    let command = command_at(nodes, text, at);
+    let command = command_at(nodes, text, at)?;
     match command {
         CommandFound::Variable {
             size,
@@ -145,6 +139,5 @@ pub fn check_command(
             sorts, fields, variables, functions, members, names, nodes, text, offset, size,
             arg_offset, arg_length, arg_sort, sort, body,
         ),
-        CommandFound::Refused(refusal) => Noted::Refused(refusal),
     }
 }

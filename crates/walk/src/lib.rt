@@ -7,4 +7,4 @@ mod pair;
 mod walk;
 
 pub use last::{NEED, NODE, VALUE, WORDS, noted};
-pub use walk::{Walked, walk_parts};
+pub use walk::walk_parts;

@@ -9,12 +9,6 @@ use arena::after;
 use commands::Form;
 use refusals::Refusal;
 
-#[derive(Clone, Copy)]
-pub enum Walked {
-    Done,
-    Refused(Refusal),
-}
-
 // The part at a node, by the reply's form.
 fn check_part(
     form: Form,
@@ -27,7 +21,7 @@ fn check_part(
     nodes: &[u64],
     text: &[u8],
     at: usize,
-) -> Noted
+) -> Result<Option<Noted>, Refusal>
     ensures { NotesAt form (record { sorts = sorts.now; fields = fields.now; variables = variables.now; functions = functions.now; members = members.now; names = names.now }) nodes.now text.now at result }
 {
     match form {
@@ -54,26 +48,18 @@ pub fn walk_parts(
     first: usize,
     count: u64,
     last: &mut [usize],
-) -> Walked
+) -> Result<(), Refusal>
     ensures { Walks form (record { sorts = sorts.now; fields = fields.now; variables = variables.now; functions = functions.now; members = members.now; names = names.now }) nodes.now text.now first count last.old last.new result }
 {
     let mut at = first;
-    let mut i: u64 = 0;
-    while i < count {
+    for _ in 0..count {
         let noted = check_part(
             form, sorts, fields, variables, functions, members, names, nodes, text, at,
-        );
-        match noted {
-            Noted::Skipped => {}
-            Noted::Defines { slot, value, need } => {
-                keep(last, slot, at, value, need);
-            }
-            Noted::Refused(refusal) => {
-                return Walked::Refused(refusal);
-            }
+        )?;
+        if let Some(Noted { slot, value, need }) = noted {
+            keep(last, slot, at, value, need);
         }
         at = after(nodes, at);
-        i += 1;
     }
-    Walked::Done
+    Ok(())
 }

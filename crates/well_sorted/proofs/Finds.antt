@@ -1,10 +1,10 @@
 -- What stands at a row that was found.
 -- Assumes nothing.
+use Rattle.std.proofs.Common.{Some, Ok}
 use mathlib.Core.Path.{◌≡◌, refl, sym, ap, ◌∙◌}
 use mathlib.Core.Bool.{Bool, true, false, cond, true≢false}
 use mathlib.Core.List.{List, [], ◌∷◌}
 use mathlib.Core.Logic.{◌⊎◌, inl, inr}
-use mathlib.Core.Option.{some}
 use Prim.Native.Nat.{ℕ, zero, suc, ◌<◌}
 use native.Mathlib.Omega.{arith}
 use lib.Dec.{eqb}
@@ -16,11 +16,10 @@ use Rattle.tables.specs.Find.{sort_row, named_sort}
 use Rattle.tables.proofs.Places.{none-some}
 use Rattle.tables.proofs.Only.{sort-found}
 use Rattle.refusals.specs.declared.Refusal.TheVariants.{NoSortRow}
-use Rattle.sorts.specs.Result.{ok}
 use Rattle.sorts.specs.Sort.{row_of}
 use Rattle.well_sorted.proofs.Results.{was-found}
 
-pub at-within : {A : Type 0} (xs : List A) (i : ℕ) (x : A) → at xs i ≡ some x → i < length xs
+pub at-within : {A : Type 0} (xs : List A) (i : ℕ) (x : A) → at xs i ≡ Some x → i < length xs
 unfolding at
 at-within [] i x e = absurd (none-some e)
 at-within (y ∷ ys) zero x e = omega arith
@@ -115,17 +114,17 @@ same_name (entity_of a) name e = inl e
 same_name (record_of a fs) name e = inr (fs, ap (λ (n : List ℕ). record_of n fs) (entity-name a name e))
 
 module _ (T : Tables) (row : ℕ) where
-  pub sort-is : (s : Sort) → nameless s ≡ true → sort_row T s ≡ some row → at T.sorts row ≡ some s
+  pub sort-is : (s : Sort) → nameless s ≡ true → sort_row T s ≡ Some row → at T.sorts row ≡ Some s
   sort-is s h e =
       let f = sort-found T row s e in
-      f.1 ∙ ap (λ (r : Sort). some r) (same-plain f.0 s h (tells f.0 s f.2 ∙ plain_self s h))
+      f.1 ∙ ap (λ (r : Sort). Some r) (same-plain f.0 s h (tells f.0 s f.2 ∙ plain_self s h))
 
-  pub named-is : (name : List ℕ) → named_sort T name ≡ some row → (s : Sort) × (at T.sorts row ≡ some s) × IsNamed name s
+  pub named-is : (name : List ℕ) → named_sort T name ≡ Some row → (s : Sort) × (at T.sorts row ≡ Some s) × IsNamed name s
   unfolding named_sort
   named-is name e =
       let f = sort-found T row (entity_of name) e in
       (f.0, f.1, same_name f.0 name (tells f.0 (entity_of name) f.2))
 
   -- the row of a sort without a name
-  pub row_is : (s : Sort) → nameless s ≡ true → row_of T s ≡ ok row → at T.sorts row ≡ some s
+  pub row_is : (s : Sort) → nameless s ≡ true → row_of T s ≡ Ok row → at T.sorts row ≡ Some s
   row_is s h e = sort-is s h (was-found NoSortRow (sort_row T s) row e)

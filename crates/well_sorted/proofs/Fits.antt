@@ -1,9 +1,9 @@
 -- A literal that is read has the sort of its row, in lawful tables and where the strings are bytes.
 -- Assumes nothing.
+use Rattle.std.proofs.Common.{Option, Some, Ok}
 use mathlib.Core.Path.{◌≡◌, refl, sym, ◌∙◌, subst}
 use mathlib.Core.Bool.{Bool, true, false, ◌&&◌}
 use mathlib.Core.List.{List}
-use mathlib.Core.Option.{Option, some}
 use Prim.Native.Nat.{ℕ, zero, suc, ◌%◌, ◌^◌, ◌≤◌, ◌<◌}
 use native.Mathlib.Nat.{mod-lt, mod-add-div'}
 use native.Mathlib.Omega.{arith}
@@ -21,7 +21,6 @@ use Rattle.arena.specs.Tree.{Tree, Trees}
 use Rattle.tables.specs.Sort.{bit_vec, Tables}
 use Rattle.tables.specs.Rules.{width_limit, lawful}
 use Rattle.tables.proofs.Lawful.{Lawful, lawful-parts, sort-right}
-use Rattle.sorts.specs.Result.{ok}
 use Rattle.values.specs.Value.{Value, Values, v_set}
 use Rattle.values.specs.HasSort.{HasSort, FieldSorts, Loose}
 use Rattle.values.proofs.Digits.{InWord}
@@ -34,7 +33,7 @@ use Rattle.well_sorted.proofs.Insides.{members-fit}
 use Rattle.well_sorted.proofs.Members.{member-kept}
 
 -- a number that was parsed has 128 bits
-pub number_fits : (r : Radix) (s : List ℕ) (n : ℕ) → numbered (parsed r s) ≡ ok n → n < 2 ^ 128
+pub number_fits : (r : Radix) (s : List ℕ) (n : ℕ) → numbered (parsed r s) ≡ Ok n → n < 2 ^ 128
 unfolding parsed
 number_fits r s n e =
     by_test (some_byte s && digits r s && ltb (number (base_of r) s) (2 ^ 128))
@@ -51,10 +50,10 @@ in_word : (n : ℕ) → InWord (signed 64 (n % 2 ^ 64))
 in_word n = let s = signed_of 64 (n % 2 ^ 64) (omega arith) (mod-lt n (pow_pos 64)) in (s.least, s.below)
 
 module _ (T : Tables) (rules : Lawful T) where
-  pub width-most : (row w : ℕ) → at T.sorts row ≡ some (bit_vec w) → w ≤ 128
+  pub width-most : (row w : ℕ) → at T.sorts row ≡ Some (bit_vec w) → w ≤ 128
   width-most row w k = leb-true w width_limit (both_right (leb 1 w) (leb w width_limit) (sort-right T rules row (bit_vec w) k))
 
-  module _ (o : Bool) (a : ℕ) (below : (e : Option ℕ) (t : Tree) (l : Lit) → Octets t → read_with T o a e t ≡ ok l → HasSort l.value Loose T l.row) where
+  module _ (o : Bool) (a : ℕ) (below : (e : Option ℕ) (t : Tree) (l : Lit) → Octets t → read_with T o a e t ≡ Ok l → HasSort l.value Loose T l.row) where
     fields_fit : (fs : List ℕ) (us : Trees) (vs : Values) → FieldReadings o T a fs us vs → OctetsAll us → FieldSorts vs Loose T fs
     fields_fit _ _ _ f_nil p = refl
     fields_fit _ _ _ (f_cons {f = f} {fs = fs} {u = u} {us = us} {vs = vs} l e k h) p =
@@ -62,7 +61,7 @@ module _ (T : Tables) (rules : Lawful T) where
           first = f;
           rest = fs;
           both = refl;
-          head = subst (λ (r : ℕ). HasSort l.value Loose T r) k (below (some f) u l p.0 e);
+          head = subst (λ (r : ℕ). HasSort l.value Loose T r) k (below (Some f) u l p.0 e);
           tail = fields_fit fs us vs h p.1;
         }
 
@@ -73,7 +72,7 @@ module _ (T : Tables) (rules : Lawful T) where
     reading-fits e _ _ _ (r_false k) p = k
     reading-fits e _ _ _ (r-member i m h k) p = let g = member-kept T m rules i k in record { name = g.name; here = g.here; same = refl; has = g.has }
     reading-fits e _ _ _ (r-none q h k) p = record { inner = q; here = k; has = tt }
-    reading-fits e _ _ _ (r-as_some {v = v} l h k m) p = record { inner = l.row; here = k; has = below (some l.row) v l p.1.0 m }
+    reading-fits e _ _ _ (r-as_some {v = v} l h k m) p = record { inner = l.row; here = k; has = below (Some l.row) v l p.1.0 m }
     reading-fits e _ _ _ (r_some {v = v} x l h m k) p = record { inner = l.row; here = k; has = below x v l p.1.0 m }
     reading-fits e _ _ _ (r-empty q h k) p = (record { inner = q; here = k; has = tt }, tt)
     reading-fits e _ _ _ (r-singleton {v = v} x l h m k) p = (record { inner = l.row; here = k; has = (below x v l p.1.0 m, tt) }, tt)
@@ -93,11 +92,11 @@ module _ (T : Tables) (rules : Lawful T) where
     reading-fits e _ _ _ (r_record {f = f} {us = us} {vs = vs} fs h k g) p =
         record { name = f; fields = fs; here = k; same = refl; has = fields_fit fs us vs g p.1 }
 
-  fits : (o : Bool) (allow : ℕ) (expected : Option ℕ) (t : Tree) (l : Lit) → Octets t → read_with T o allow expected t ≡ ok l → HasSort l.value Loose T l.row
+  fits : (o : Bool) (allow : ℕ) (expected : Option ℕ) (t : Tree) (l : Lit) → Octets t → read_with T o allow expected t ≡ Ok l → HasSort l.value Loose T l.row
   unfolding read_with
   fits o zero e t l p m = refuses m
   fits o (suc a) e t l p m = reading-fits o a (λ x u k q n. fits o a x u k q n) e t l.row l.value (reading T o a e t l m) p
 
 module _ (T : Tables) (o : Bool) (rules : lawful T ≡ true) (allow : ℕ) (expected : Option ℕ) (t : Tree) (l : Lit) where
-  pub read_fits : Octets t → read_with T o allow expected t ≡ ok l → HasSort l.value Loose T l.row
+  pub read_fits : Octets t → read_with T o allow expected t ≡ Ok l → HasSort l.value Loose T l.row
   read_fits h e = fits T (lawful-parts T rules) o allow expected t l h e

@@ -1,16 +1,15 @@
 -- A refusal of a literal or of a sort tells no need: its detail is 0.
 -- Assumes nothing.
+use Rattle.std.proofs.Common.{None, Option, Some, Err, Ok, Result}
 use mathlib.Core.Path.{◌≡◌, refl}
 use mathlib.Core.Bool.{Bool, true, false, cond, ◌&&◌}
 use mathlib.Core.List.{List, [], ◌∷◌}
-use mathlib.Core.Option.{Option, none, some}
 use Prim.Native.Nat.{ℕ, zero, suc, ◌%◌, ◌^◌}
 use lib.Dec.{leb, ltb, eqb}
 use Rattle.ground.specs.Lists.{at}
 use Rattle.refusals.specs.declared.Refusal.{Refusal}
 use Rattle.refusals.specs.declared.Refusal.TheVariants.{ParseIntError, IntegerOverflow, ZeroWidthBitVec, UnknownType, UnknownLiteral, UnmatchedType, UnmatchedFieldType, UnmatchedRecordType, InvalidOptionType, InvalidSetType, NoSortRow, SetUnionNonLiterals}
 use Rattle.refusals.specs.Number.{detail_of}
-use Rattle.words.specs.declared.digits.Parsed.{Parsed}
 use Rattle.words.specs.declared.pair.Pair.{Pair}
 use Rattle.words.specs.declared.digits.Radix.{Radix}
 use Rattle.words.specs.Pair.{pair_of}
@@ -21,32 +20,32 @@ use Rattle.tables.specs.Find.{sort_row, named_sort, member_row}
 use Rattle.tables.specs.Sort.{decimal, datetime, duration, Sort, bool, string, ext, bit_vec, option_of, set_of, entity_of, record_of, Member, Tables}
 use Rattle.shapes.specs.Shape.{is, Shape, unary, binary, ite, uncovered, as_none, as_some, some_of, as_empty, singleton, union, extension, indexed, made, other, shape}
 use Rattle.shapes.specs.SortShape.{SortShape, word, width_of, option_of as option_shape, set_of as set_shape, no_sort, sort_shape}
-use Rattle.sorts.specs.Result.{Result, ok, refused, ◌>>=◌, unless, found}
+use Rattle.sorts.specs.Result.{◌>>=◌, unless, found}
 use Rattle.sorts.specs.Sort.{row_of, sort_word, sort_of, read_sort}
 use Rattle.values.specs.Value.{Value, v_bool, v_string, v_bits}
 use Rattle.values.specs.Holds.{held}
 use Rattle.values.specs.Operators.{chosen}
 use Rattle.means.specs.Literal.{Lit, option_in, set_in, unsigned, numbered, entity_lit, same_count, fields_of, union_lit, lit_of, expect_in, some_lit, width_lit, made_row, app_lit, member_lit, at_row, read_with, unary_of, binary_of, ite_lit, bool_lit}
 
-abbrev pub Plain : {A : Type 0} → Result A → Type 0
-Plain (ok a) = Unit {0}
-Plain (refused r) = detail_of r ≡ 0
+abbrev pub Plain : {A : Type 0} → Result A Refusal → Type 0
+Plain (Ok a) = Unit {0}
+Plain (Err r) = detail_of r ≡ 0
 
-pub plain_then : {A B : Type 0} (m : Result A) (f : A → Result B) → Plain m → ((a : A) → Plain (f a)) → Plain (m >>= f)
+pub plain_then : {A B : Type 0} (m : Result A Refusal) (f : A → Result B Refusal) → Plain m → ((a : A) → Plain (f a)) → Plain (m >>= f)
 unfolding ◌>>=◌
-plain_then (ok a) f p q = q a
-plain_then (refused r) f p q = p
+plain_then (Ok a) f p q = q a
+plain_then (Err r) f p q = p
 
-pub plain-unless : {A : Type 0} (test : Bool) (r : Refusal) (m : Result A) → detail_of r ≡ 0 → Plain m → Plain (unless test r m)
+pub plain-unless : {A : Type 0} (test : Bool) (r : Refusal) (m : Result A Refusal) → detail_of r ≡ 0 → Plain m → Plain (unless test r m)
 unfolding unless
 plain-unless true r m p q = q
 plain-unless false r m p q = p
 
 pub plain-found : {A : Type 0} (r : Refusal) (o : Option A) → detail_of r ≡ 0 → Plain (found r o)
-plain-found r none p = p
-plain-found r (some a) p = tt
+plain-found r None p = p
+plain-found r (Some a) p = tt
 
-plain-cond : {A : Type 0} (test : Bool) (m n : Result A) → Plain m → Plain n → Plain (cond test m n)
+plain-cond : {A : Type 0} (test : Bool) (m n : Result A Refusal) → Plain m → Plain n → Plain (cond test m n)
 plain-cond true m n p q = p
 plain-cond false m n p q = q
 
@@ -64,7 +63,7 @@ module _ (T : Tables) where
       (plain-cond (is s "Duration") _ _ (row_plain (ext duration))
       (plain-found UnknownType (named_sort T s) refl)))))
 
-  shape-plain : (below : Tree → Result ℕ) → ((t : Tree) → Plain (below t)) → (s : SortShape) → Plain (sort_of T below s)
+  shape-plain : (below : Tree → Result ℕ Refusal) → ((t : Tree) → Plain (below t)) → (s : SortShape) → Plain (sort_of T below s)
   shape-plain below h (word s) = sort-word-plain s
   shape-plain below h (width_of n) =
       plain-unless (ltb n (2 ^ 32)) IntegerOverflow _ refl (plain-unless (ltb 0 n) ZeroWidthBitVec _ refl (row_plain (bit_vec n)))
@@ -78,7 +77,7 @@ module _ (T : Tables) where
   sort-plain (suc allow) t = shape-plain (λ u. read_sort T allow u) (λ u. sort-plain allow u) (sort_shape t)
 
 -- literals
-numbered-so : (test : Bool) (p : Pair) → Plain (numbered (cond test (Parsed.Number p) (Parsed.Refused ParseIntError)))
+numbered-so : (test : Bool) (p : Pair) → Plain (numbered (cond test (Ok p) (Err ParseIntError)))
 numbered-so true p = tt
 numbered-so false p = refl
 
@@ -95,11 +94,11 @@ entity-plain row (cons (quoted s) (cons u us)) = refl
 entity-plain row (cons (symbol s) us) = refl
 entity-plain row (cons (app ts) us) = refl
 
-fields-plain : (below : Option ℕ → Tree → Result Lit) → ((e : Option ℕ) (t : Tree) → Plain (below e t)) → (fs : List ℕ) (us : Trees) → Plain (fields_of below fs us)
+fields-plain : (below : Option ℕ → Tree → Result Lit Refusal) → ((e : Option ℕ) (t : Tree) → Plain (below e t)) → (fs : List ℕ) (us : Trees) → Plain (fields_of below fs us)
 fields-plain below h [] us = tt
 fields-plain below h (f ∷ fs) nil = tt
 fields-plain below h (f ∷ fs) (cons u us) =
-    plain_then (below (some f) u) _ (h (some f) u)
+    plain_then (below (Some f) u) _ (h (Some f) u)
     (λ l. plain-unless (eqb l.row f) UnmatchedFieldType _ refl (plain_then (fields_of below fs us) _ (fields-plain below h fs us) (λ vs. tt)))
 
 union-plain : (l m : Lit) → Plain (union_lit l m)
@@ -118,8 +117,8 @@ module _ (T : Tables) where
   lit-plain s v = plain_then (row_of T s) _ (row_plain T s) (λ row. tt)
 
   expect_plain : (inside : Option Sort → Option ℕ) (e : Option ℕ) → Plain (expect_in T inside e)
-  expect_plain inside none = tt
-  expect_plain inside (some row) =
+  expect_plain inside None = tt
+  expect_plain inside (Some row) =
       plain_then (found UnknownLiteral (inside (at T.sorts row))) _ (plain-found UnknownLiteral (inside (at T.sorts row)) refl) (λ q. tt)
 
   bool-plain : (o : Option Value) → Plain (bool_lit T o)
@@ -131,26 +130,26 @@ module _ (T : Tables) where
       (plain-unless (ltb 0 w) ZeroWidthBitVec _ refl
       (plain-cond (ltb w 128 && leb (2 ^ w) n) _ _ refl (lit-plain (bit_vec w) (v_bits w n))))
 
-  module _ (sort_below : Tree → Result ℕ) (below : Option ℕ → Tree → Result Lit) (g : (t : Tree) → Plain (sort_below t)) (h : (e : Option ℕ) (t : Tree) → Plain (below e t)) where
+  module _ (sort_below : Tree → Result ℕ Refusal) (below : Option ℕ → Tree → Result Lit Refusal) (g : (t : Tree) → Plain (sort_below t)) (h : (e : Option ℕ) (t : Tree) → Plain (below e t)) where
     made-row-plain : (row : ℕ) (s : Option Sort) (us : Trees) → Plain (made_row T sort_below below row s us)
-    made-row-plain row none us = refl
-    made-row-plain row (some bool) us = refl
-    made-row-plain row (some string) us = refl
-    made-row-plain row (some (ext e)) us = refl
-    made-row-plain row (some (bit_vec w)) us = refl
-    made-row-plain row (some (option_of q)) us = refl
-    made-row-plain row (some (set_of q)) us = refl
-    made-row-plain row (some (entity_of name)) us = entity-plain row us
-    made-row-plain row (some (record_of name fs)) us =
+    made-row-plain row None us = refl
+    made-row-plain row (Some bool) us = refl
+    made-row-plain row (Some string) us = refl
+    made-row-plain row (Some (ext e)) us = refl
+    made-row-plain row (Some (bit_vec w)) us = refl
+    made-row-plain row (Some (option_of q)) us = refl
+    made-row-plain row (Some (set_of q)) us = refl
+    made-row-plain row (Some (entity_of name)) us = entity-plain row us
+    made-row-plain row (Some (record_of name fs)) us =
         plain-unless (same_count fs us) UnmatchedRecordType _ refl (plain_then (fields_of below fs us) _ (fields-plain below h fs us) (λ vs. tt))
 
     app-plain : (o : Bool) (e : Option ℕ) (s : Shape) → Plain (app_lit T sort_below below o e s)
-    app-plain true e (unary op v) = plain_then (below none v) _ (h none v) (λ l. bool-plain (unary_of op l))
+    app-plain true e (unary op v) = plain_then (below None v) _ (h None v) (λ l. bool-plain (unary_of op l))
     app-plain false e (unary op v) = refl
-    app-plain true e (binary op v w) = plain_then (below none v) _ (h none v) (λ l. plain_then (below none w) _ (h none w) (λ m. bool-plain (binary_of op l m)))
+    app-plain true e (binary op v w) = plain_then (below None v) _ (h None v) (λ l. plain_then (below None w) _ (h None w) (λ m. bool-plain (binary_of op l m)))
     app-plain false e (binary op v w) = refl
     app-plain true e (ite c v w) =
-        plain_then (below none c) _ (h none c) (λ k. plain_then (below e v) _ (h e v) (λ l. plain_then (below e w) _ (h e w) (λ m. ite-plain k l m)))
+        plain_then (below None c) _ (h None c) (λ k. plain_then (below e v) _ (h e v) (λ l. plain_then (below e w) _ (h e w) (λ m. ite-plain k l m)))
     app-plain false e (ite c v w) = refl
     app-plain o e uncovered = refl
     app-plain o e (as_none t) =
@@ -175,8 +174,8 @@ module _ (T : Tables) where
     app-plain o e other = refl
 
   member-plain : (m : Option Member) → Plain (member_lit T m)
-  member-plain none = refl
-  member-plain (some m) = tt
+  member-plain None = refl
+  member-plain (Some m) = tt
 
   pub read_plain : (o : Bool) (allow : ℕ) (e : Option ℕ) (t : Tree) → Plain (read_with T o allow e t)
   unfolding read_with

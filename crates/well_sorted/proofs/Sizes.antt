@@ -1,9 +1,9 @@
 -- How long the text of a literal can be: 131,200 bytes a node, which holds a member's longest text, and two for each byte of the tree's.
 -- Assumes nothing.
+use Rattle.std.proofs.Common.{Option, Some, Ok}
 use mathlib.Core.Path.{◌≡◌, subst}
 use mathlib.Core.Bool.{Bool, true, false}
 use mathlib.Core.List.{List}
-use mathlib.Core.Option.{Option, some}
 use Prim.Native.Nat.{ℕ, zero, suc, ◌+◌, ◌*◌, ◌%◌, ◌^◌, ◌≤◌, ◌<◌}
 use native.Mathlib.Nat.{mul-add}
 use native.Mathlib.Omega.{arith}
@@ -16,7 +16,6 @@ use Rattle.arena.specs.Tree.{Tree, Trees, symbol, string as quoted, app, nil, co
 use Rattle.tables.specs.Sort.{Ext, Tables}
 use Rattle.tables.specs.Rules.{lawful}
 use Rattle.tables.proofs.Lawful.{Lawful, lawful-parts}
-use Rattle.sorts.specs.Result.{ok}
 use Rattle.values.specs.Value.{Value, Values, v_bool, v_ext, v_bits, v_set, v_entity, v_nil, v_cons, union}
 use Rattle.values.specs.Text.{text}
 use Rattle.values.proofs.Lengths.{signed-most, size, size-union, length_true, length_false, length-string, length-ext, length-bits, length_none, length_some, length-set, length-entity, length_record}
@@ -83,11 +82,11 @@ union-short vs ws =
     omega arith
 
 module _ (T : Tables) (rules : Lawful T) where
-  module _ (o : Bool) (a : ℕ) (below : (e : Option ℕ) (t : Tree) (l : Lit) → read_with T o a e t ≡ ok l → length (text l.value) < room t) where
+  module _ (o : Bool) (a : ℕ) (below : (e : Option ℕ) (t : Tree) (l : Lit) → read_with T o a e t ≡ Ok l → length (text l.value) < room t) where
     fields-short : (fs : List ℕ) (us : Trees) (vs : Values) → FieldReadings o T a fs us vs → size vs ≤ rooms us
     fields-short _ _ _ f_nil = omega arith
     fields-short _ _ _ (f_cons {f = f} {fs = fs} {u = u} {us = us} {vs = vs} l e k h) =
-        let p = below (some f) u l e in
+        let p = below (Some f) u l e in
         let q = fields-short fs us vs h in
         let r = rooms-cons 131200 u us in
         omega arith
@@ -102,7 +101,7 @@ module _ (T : Tables) (rules : Lawful T) where
         omega (arith, g, entity-short m.entity m.text, room-node t)
     reading-short e t _ _ (r-none q h k) = omega (arith, length_none, room-node t)
     reading-short e t _ _ (r-as_some {t = u} {v = v} l h k m) =
-        omega (arith, length_some l.value, below (some l.row) v l m, room-second (app (call2 (bytes "as") (symbol (bytes "some")) u)) v)
+        omega (arith, length_some l.value, below (Some l.row) v l m, room-second (app (call2 (bytes "as") (symbol (bytes "some")) u)) v)
     reading-short e t _ _ (r_some {v = v} x l h m k) = omega (arith, length_some l.value, below x v l m, room-second (symbol (bytes "some")) v)
     reading-short e t _ _ (r-empty q h k) = omega (arith, length-set v_nil, room-node t)
     reading-short e t _ _ (r-singleton {v = v} x l h m k) = omega (arith, length-set (v_cons l.value v_nil), below x v l m, room-second (symbol (bytes "set.singleton")) v)
@@ -120,15 +119,15 @@ module _ (T : Tables) (rules : Lawful T) where
     reading-short e t _ _ (r_record {f = f} {us = us} {row = row} {vs = vs} fs h k g) =
         omega (arith, length_record row vs, count_most row, fields-short fs us vs g, rooms-cons 131200 (symbol f) us)
 
-  short : (o : Bool) (allow : ℕ) (expected : Option ℕ) (t : Tree) (l : Lit) → read_with T o allow expected t ≡ ok l → length (text l.value) < room t
+  short : (o : Bool) (allow : ℕ) (expected : Option ℕ) (t : Tree) (l : Lit) → read_with T o allow expected t ≡ Ok l → length (text l.value) < room t
   unfolding read_with
   short o zero e t l m = refuses m
   short o (suc a) e t l m = reading-short o a (λ x u k n. short o a x u k n) e t l.row l.value (reading T o a e t l m)
 
 module _ (T : Tables) (o : Bool) (rules : lawful T ≡ true) (allow : ℕ) (expected : Option ℕ) (t : Tree) (l : Lit) where
-  pub read_short : read_with T o allow expected t ≡ ok l → length (text l.value) < 131200 * nodes t + 2 * length (tree_text t)
+  pub read_short : read_with T o allow expected t ≡ Ok l → length (text l.value) < 131200 * nodes t + 2 * length (tree_text t)
   read_short m = short T (lawful-parts T rules) o allow expected t l m
 
   -- of a tree that an arena holds
-  pub read_small : nodes t ≤ most_nodes → length (tree_text t) ≤ most_text → read_with T o allow expected t ≡ ok l → length (text l.value) < 2 ^ 60
+  pub read_small : nodes t ≤ most_nodes → length (tree_text t) ≤ most_text → read_with T o allow expected t ≡ Ok l → length (text l.value) < 2 ^ 60
   read_small h k m = let s = read_short m in omega arith

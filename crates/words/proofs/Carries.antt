@@ -1,9 +1,8 @@
 -- One digit more, over the base: four half words, each times the base with the carry of the one below it.
 -- Assumes nothing.
-use Rattle.std.proofs.Common.{◌≡◌, ℕ, ◌+◌, ◌*◌, ◌/◌, ◌%◌, ◌^◌, ◌<◌, ◌≤◌, sym, ap, ◌∙◌, mul_assoc, mul_comm, add-mul, mul-le-mul, div-add-mod', arith}
+use Rattle.std.proofs.Common.{◌≡◌, ℕ, ◌+◌, ◌*◌, ◌/◌, ◌%◌, ◌^◌, ◌<◌, ◌≤◌, sym, ap, ◌∙◌, mul_assoc, mul_comm, add-mul, div-add-mod', arith, None, Some}
 use Rattle.words.specs.declared.digits.Radix.{Radix}
 use Rattle.words.specs.declared.digits.Radix.TheVariants.{Binary, Decimal, Hexadecimal}
-use Rattle.words.specs.declared.pair.Grown.TheVariants.{Fit, Over}
 use Rattle.words.specs.Pair.{grown}
 use Rattle.words.specs.Radix.{base_of}
 use Rattle.words.proofs.Numbers.{too_large, fitting, pair_is, grown-fit, grown-over}
@@ -11,36 +10,16 @@ use Rattle.words.proofs.Numbers.{too_large, fitting, pair_is, grown-fit, grown-o
 abbrev H : ℕ
 H = 4294967296
 
-pub base-small : (r : Radix) → base_of r ≤ 16
-base-small Binary = omega arith
-base-small Decimal = omega arith
-base-small Hexadecimal = omega arith
-
 pub base_large : (r : Radix) → 2 ≤ base_of r
 base_large Binary = omega arith
 base_large Decimal = omega arith
 base_large Hexadecimal = omega arith
-
--- a half word times a base
-half-times : {a b : ℕ} → a < H → b ≤ 16 → a * b ≤ 68719476720
-half-times {a} {b} h k = mul-le-mul {n₁ = a} {m₁ = b} {n₂ = 4294967295} {m₂ = 16} (omega arith) k
-
--- the products that the code makes of a word's halves
-module _ (x : ℕ) {b : ℕ} (r : Radix) (is : b ≡ base_of r) where
-  pub lower-times : x % H * b ≤ 68719476720
-  lower-times = half-times (omega arith) (omega (arith, base-small r))
-
-  pub upper-times : x < 2 ^ 64 → x / H * b ≤ 68719476720
-  upper-times h = half-times (omega arith) (omega (arith, base-small r))
 
 spread : (x b : ℕ) → x * b ≡ x % H * b + x / H * b * H
 spread x b =
     let e : x / H * H * b ≡ x / H * b * H = mul_assoc (x / H) H b ∙ ap (λ (k : ℕ). x / H * k) (mul_comm H b) ∙ sym (mul_assoc (x / H) b H) in
     let s : x * b ≡ x / H * H * b + x % H * b = ap (λ (k : ℕ). k * b) (sym (div-add-mod' x H)) ∙ add-mul (x / H * H) (x % H) b in
     omega arith
-
-carry-fits : (p x : ℕ) → p ≤ 68719476720 → x < 2 ^ 64 → p + x / H < 2 ^ 64
-carry-fits p x h k = omega arith
 
 above : (f t : ℕ) → H ≤ f → 2 ^ 64 ≤ f * H + t
 above f t h = omega arith
@@ -68,19 +47,6 @@ module _ (p q r s d : ℕ) where
   abbrev high' : ℕ
   high' = fourth * H + third % H
 
-  module _ (p-small : p ≤ 68719476720) (q-small : q ≤ 68719476720) (r_small : r ≤ 68719476720) (s-small : s ≤ 68719476720) (d_small : d < 256) where
-    pub first_fits : first < 2 ^ 64
-    first_fits = omega arith
-
-    pub second_fits : second < 2 ^ 64
-    second_fits = carry-fits q first q-small first_fits
-
-    pub third-fits : third < 2 ^ 64
-    third-fits = carry-fits r second r_small second_fits
-
-    pub fourth-fits : fourth < 2 ^ 64
-    fourth-fits = carry-fits s third s-small third-fits
-
   carried : (p + q * H) + (r + s * H) * 2 ^ 64 + d ≡ low' + high' * 2 ^ 64
   carried = omega arith
 
@@ -106,12 +72,12 @@ module _ (low high base d : ℕ) where
       let c = carried (low % H * base) (low / H * base) (high % H * base) (high / H * base) d in
       omega arith
 
-  pub digit-over : H ≤ top → Over ≡ grown ((low + high * 2 ^ 64) * base + d)
+  pub digit-over : H ≤ top → None ≡ grown ((low + high * 2 ^ 64) * base + d)
   digit-over h =
       sym (grown-over _ (too_large _ low-next high-next (low_fits (low % H * base) (low / H * base) (high % H * base) (high / H * base) d) next-is (above top _ h)))
 
-  pub digit-fits : top < H → Fit (record { low = low-next; high = high-next }) ≡ grown ((low + high * 2 ^ 64) * base + d)
+  pub digit-fits : top < H → Some (record { low = low-next; high = high-next }) ≡ grown ((low + high * 2 ^ 64) * base + d)
   digit-fits h =
       let l = low_fits (low % H * base) (low / H * base) (high % H * base) (high / H * base) d in
-      ap Fit (pair_is _ low-next high-next l next-is)
+      ap Some (pair_is _ low-next high-next l next-is)
       ∙ sym (grown-fit _ (fitting _ low-next high-next l next-is (within top _ h)))

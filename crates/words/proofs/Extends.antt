@@ -1,11 +1,10 @@
 -- Sign extension: in one word, and in the pair.
 -- Assumes nothing.
-use Rattle.std.proofs.Common.{◌≡◌, ℕ, ◌+◌, ◌-◌, ◌*◌, ◌/◌, ◌%◌, ◌^◌, ◌<◌, ◌≤◌, true, false, ◌&&◌, ltb, leb, sym, refl, ap, ◌∙◌, subst, ap₂, mod-lt, add-mul, add_comm, one-mul, arith, pow_pos, pow_mono, pow-add, shl_exact, le-ltb, lt-ltb, le-leb}
+use Rattle.std.proofs.Common.{◌≡◌, ℕ, ◌+◌, ◌-◌, ◌*◌, ◌/◌, ◌%◌, ◌^◌, ◌<◌, ◌≤◌, true, false, ◌&&◌, ltb, leb, sym, refl, ap, ◌∙◌, subst, ap₂, mod-lt, add-mul, add_comm, one-mul, arith, pow_pos, pow_mono, pow-add, shl_exact, le-ltb, lt-ltb, le-leb, None, Some}
 use lib.Bits.{bit_and, and_mask}
-use lib.Pow.{pow-lt, mod-pow-add, mod-mod-pow}
+use lib.Pow.{mod-pow-add, mod-mod-pow}
 use borrow.Author.Tests.{lt-leb}
 use Rattle.ground.proofs.Tests.{by_test, and-false}
-use Rattle.words.specs.declared.pair.Filled.TheVariants.{Negative, Positive}
 use Rattle.words.specs.Extension.{negative, filled, extended, extended_word}
 use Rattle.words.proofs.Powers.{leb_high, power_high}
 
@@ -45,29 +44,29 @@ module _ (bit n : ℕ) where
         let s = low-set in
         omega arith
 
-  pub word-clear : n / 2 ^ bit % 2 ≡ 0 → Positive ≡ extended_word bit n
+  pub word-clear : n / 2 ^ bit % 2 ≡ 0 → None ≡ extended_word bit n
   unfolding extended_word
   word-clear h = rw (bit-clear h)
 
-  word_set : bit < 64 → (n / 2 ^ bit % 2 ≡ 0 → ⊥) → Negative (18446744073709551615 - (2 ^ bit - 1) + n % 2 ^ bit) ≡ extended_word bit n
+  word_set : bit < 64 → (n / 2 ^ bit % 2 ≡ 0 → ⊥) → Some (18446744073709551615 - (2 ^ bit - 1) + n % 2 ^ bit) ≡ extended_word bit n
   unfolding extended_word
   word_set k h =
       let o : n / 2 ^ bit % 2 ≡ 1 = omega arith in
-      rw (bit-set o) (ap Negative (sym (ones_above o k)))
+      rw (bit-set o) (ap Some (sym (ones_above o k)))
 
-  pub was-positive : extended_word bit n ≡ Positive → negative (bit + 1) n ≡ false
+  pub was-positive : extended_word bit n ≡ None → negative (bit + 1) n ≡ false
   unfolding extended_word
   was-positive e =
       by_test (negative (bit + 1) n)
-      (λ t. let f : extended_word bit n ≡ Negative (filled 64 (bit + 1) n) = rw t in let z : ◌≡◌ {A = ℕ} 0 1 = cc in absurd (omega arith))
+      (λ t. let f : extended_word bit n ≡ Some (filled 64 (bit + 1) n) = rw t in let z : ◌≡◌ {A = ℕ} 0 1 = cc in absurd (omega arith))
       (λ t. t)
 
-  pub was-negative : (f : ℕ) → extended_word bit n ≡ Negative f → (negative (bit + 1) n ≡ true) × (f ≡ filled 64 (bit + 1) n)
+  pub was-negative : (f : ℕ) → extended_word bit n ≡ Some f → (negative (bit + 1) n ≡ true) × (f ≡ filled 64 (bit + 1) n)
   unfolding extended_word
   was-negative f e =
       by_test (negative (bit + 1) n)
-      (λ t. let g : extended_word bit n ≡ Negative (filled 64 (bit + 1) n) = rw t in (t, (cc)))
-      (λ t. let g : extended_word bit n ≡ Positive = rw t in let z : ◌≡◌ {A = ℕ} 0 1 = cc in absurd (omega arith))
+      (λ t. let g : extended_word bit n ≡ Some (filled 64 (bit + 1) n) = rw t in (t, (cc)))
+      (λ t. let g : extended_word bit n ≡ None = rw t in let z : ◌≡◌ {A = ℕ} 0 1 = cc in absurd (omega arith))
 
 -- the same, in the code's words: a shifted one, and a mask
 module _ (bit n : ℕ) (h : bit < 64) where
@@ -77,20 +76,9 @@ module _ (bit n : ℕ) (h : bit < 64) where
   masked : bit_and n (unit - 1) ≡ n % 2 ^ bit
   masked = ap (λ (u : ℕ). bit_and n (u - 1)) (unit-is bit h) ∙ and_mask n bit
 
-  pub unit-some : 1 ≤ unit
-  unit-some = let u = unit-is bit h in let p : 0 < 2 ^ bit = pow_pos bit in omega arith
-
-  pub unit-fits : 18446744073709551615 - (unit - 1) + bit_and n (unit - 1) < 2 ^ 64
-  unit-fits =
-      let u = unit-is bit h in
-      let m = masked in
-      let b = below-small bit n in
-      let p : 2 ^ bit < 2 ^ 64 = pow-lt {i = bit} {j = 64} h in
-      omega arith
-
-  pub unit-set : (n / 2 ^ bit % 2 ≡ 0 → ⊥) → Negative (18446744073709551615 - (unit - 1) + bit_and n (unit - 1)) ≡ extended_word bit n
+  pub unit-set : (n / 2 ^ bit % 2 ≡ 0 → ⊥) → Some (18446744073709551615 - (unit - 1) + bit_and n (unit - 1)) ≡ extended_word bit n
   unit-set k =
-      ap₂ (λ (u m : ℕ). Negative (18446744073709551615 - (u - 1) + m)) (unit-is bit h) masked ∙ word_set bit n h k
+      ap₂ (λ (u m : ℕ). Some (18446744073709551615 - (u - 1) + m)) (unit-is bit h) masked ∙ word_set bit n h k
 
 -- the definition by its cases
 pub extended-zero : (n : ℕ) → n ≡ extended 0 n
@@ -138,11 +126,11 @@ module _ (l h w : ℕ) (l-fits : l < 2 ^ 64) where
     width_low : w - 1 + 1 ≡ w
     width_low = omega arith
 
-    pub extends-low-positive : extended_word (w - 1) l ≡ Positive → whole ≡ extended w whole
+    pub extends-low-positive : extended_word (w - 1) l ≡ None → whole ≡ extended w whole
     extends-low-positive e =
         extended-positive w whole (low-sign ∙ subst (λ (k : ℕ). negative k l ≡ false) width_low (was-positive (w - 1) l e))
 
-    pub extends-low-negative : (f : ℕ) → extended_word (w - 1) l ≡ Negative f → f + 18446744073709551615 * 2 ^ 64 ≡ extended w whole
+    pub extends-low-negative : (f : ℕ) → extended_word (w - 1) l ≡ Some f → f + 18446744073709551615 * 2 ^ 64 ≡ extended w whole
     extends-low-negative f e =
         let n = was-negative (w - 1) l f e in
         ap (λ (k : ℕ). k + 18446744073709551615 * 2 ^ 64) (n.1 ∙ ap (λ (k : ℕ). filled 64 k l) width_low) ∙ low-filled
@@ -176,11 +164,11 @@ module _ (l h w : ℕ) (l-fits : l < 2 ^ 64) where
     width-high : w - 65 + 1 ≡ w - 64
     width-high = omega arith
 
-    pub extends-high-positive : extended_word (w - 65) h ≡ Positive → whole ≡ extended w whole
+    pub extends-high-positive : extended_word (w - 65) h ≡ None → whole ≡ extended w whole
     extends-high-positive e =
         extended-positive w whole (high-sign ∙ subst (λ (k : ℕ). negative k h ≡ false) width-high (was-positive (w - 65) h e))
 
-    pub extends-high-negative : (f : ℕ) → extended_word (w - 65) h ≡ Negative f → l + f * 2 ^ 64 ≡ extended w whole
+    pub extends-high-negative : (f : ℕ) → extended_word (w - 65) h ≡ Some f → l + f * 2 ^ 64 ≡ extended w whole
     extends-high-negative f e =
         let n = was-negative (w - 65) h f e in
         ap (λ (k : ℕ). l + k * 2 ^ 64) (n.1 ∙ ap (λ (k : ℕ). filled 64 k h) width-high) ∙ high-filled

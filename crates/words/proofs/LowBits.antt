@@ -1,13 +1,9 @@
 -- The lowest bits of a number of two words, in the code's steps.
 -- Assumes nothing.
-use Rattle.std.proofs.Common.{◌≡◌, ℕ, ◌+◌, ◌-◌, ◌*◌, ◌/◌, ◌%◌, ◌^◌, ◌<◌, ◌≤◌, sym, ap, ◌∙◌, subst, ap₂, lt_of_lt_of_le, mod-eq_of_lt, add_comm, arith, pow_pos, pow_mono}
+use Rattle.std.proofs.Common.{◌≡◌, ℕ, ◌+◌, ◌-◌, ◌*◌, ◌/◌, ◌%◌, ◌^◌, ◌<◌, ◌≤◌, sym, ap, ◌∙◌, ap₂, lt_of_lt_of_le, mod-eq_of_lt, add_comm, arith, pow_mono}
 use lib.Pow.{mod-pow-add, mod-mod-pow}
 use Rattle.words.proofs.Numbers.{value-fits}
 use Rattle.words.proofs.Extends.{unit-is}
-
--- the code's power of two
-pub unit-some : (k : ℕ) → k < 64 → 0 < 1 * 2 ^ k % 2 ^ 64
-unit-some k h = subst (λ (n : ℕ). 0 < n) (sym (unit-is k h)) (pow_pos k)
 
 -- the lowest bits of a number of two words
 module _ (low high w : ℕ) (l : low < 2 ^ 64) where

@@ -1,7 +1,10 @@
--- The low word read as signed, in the code's steps: as it is, or its complement below -1.
+-- The low word read as signed: as the library's cast reads it, and in steps: as it is, or its complement below -1.
 -- Assumes nothing.
 use Rattle.std.proofs.Common.{◌≡◌, ℕ, zero, suc, ◌-◌, ◌^◌, ◌<◌, ◌≤◌, ℤ, pos, negsuc, ◌-ℤ◌, sym, refl, ap, ◌∙◌, subst, zero-add, arith, w64, SFits, to_z, of_z}
 use mir.ValLaws.{to_z-of_z}
+use Rattle.std.proofs.Math.Facts.{to_z-neg}
+use Rattle.std.proofs.lemmas.Int.{of_z-to_z}
+use Rattle.ground.proofs.Tests.{by_order}
 use Rattle.words.specs.Extension.{signed}
 use Rattle.words.proofs.Signs.{minus, signed_low, signed_high}
 
@@ -27,3 +30,15 @@ module _ (low : ℕ) where
     low-negative =
         let e : 18446744073709551615 - low ≡ 2 ^ 64 - low - 1 = omega arith in
         to_z-of_z w64 _ low_fits ∙ step ∙ ap negsuc e ∙ sym (minus low (2 ^ 64) fits) ∙ sym (signed_high 64 low h)
+
+signed_word : (low : ℕ) → low < 2 ^ 64 → to_z w64 low ≡ signed 64 low
+signed_word low fits =
+    by_order low (2 ^ 63)
+    (low-positive low)
+    (λ large.
+    let below : ℕ = 2 ^ 64 - low - 1 in
+    let e : low ≡ 2 ^ 64 - suc below = omega arith in
+    ap (to_z w64) e ∙ to_z-neg w64 below (omega arith) ∙ sym (minus low (2 ^ 64) fits) ∙ sym (signed_high 64 low large))
+
+pub cast_word : (low : ℕ) (z : ℤ) → low < 2 ^ 64 → z ≡ to_z w64 low → to_z w64 (of_z w64 z) ≡ signed 64 low
+cast_word low z fits e = ap (λ (y : ℤ). to_z w64 (of_z w64 y)) e ∙ ap (to_z w64) (of_z-to_z w64 low fits) ∙ signed_word low fits

@@ -21,10 +21,3 @@ ordered_same p n h =
 module _ (l h m k : ℕ) where
   pub high-less : l < 2 ^ 64 → h < k → l + h * 2 ^ 64 < m + k * 2 ^ 64
   high-less a b = omega arith
-
-  module _ (a : h ≤ k) (b : k ≤ h) where
-    pub low-less : l < m → l + h * 2 ^ 64 < m + k * 2 ^ 64
-    low-less c = omega arith
-
-    pub low_same : l ≤ m → m ≤ l → l + h * 2 ^ 64 ≡ m + k * 2 ^ 64
-    low_same c d = omega arith

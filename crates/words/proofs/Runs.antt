@@ -1,25 +1,22 @@
 -- A run of digits, one after the other: what is left of it decides as the whole did.
 -- Assumes nothing.
-use Rattle.std.proofs.Common.{◌≡◌, ℕ, ◌+◌, ◌*◌, ◌^◌, ◌<◌, ◌≤◌, cond, ◌&&◌, ltb, List, [], ◌∷◌, length, get_or, drop, sym, refl, ap, ◌∙◌, subst, le_trans, mul-le-mul_left, mul-one, arith, lit<, drop_of_length-le, le-ltb, lt-ltb}
+use Rattle.std.proofs.Common.{◌≡◌, ℕ, ◌+◌, ◌*◌, ◌^◌, ◌<◌, ◌≤◌, cond, ◌&&◌, ltb, List, [], ◌∷◌, length, get_or, drop, sym, refl, ap, ◌∙◌, subst, le_trans, mul-le-mul_left, mul-one, arith, lit<, drop_of_length-le, le-ltb, lt-ltb, Err, None, Ok, Option, Result, Some}
 use Rattle.ground.specs.Lists.{all}
 use Rattle.ground.proofs.Lists.{at_place}
 use Rattle.ground.proofs.Tests.{and-false}
 use Rattle.refusals.specs.declared.Refusal.TheVariants.{ParseIntError}
 use Rattle.words.specs.declared.digits.Radix.{Radix}
-use Rattle.words.specs.declared.digits.Parsed.{Parsed}
-use Rattle.words.specs.declared.digits.Parsed.TheVariants.{Number, Refused}
 use Rattle.words.specs.declared.pair.Pair.{Pair}
-use Rattle.words.specs.declared.pair.Grown.{Grown}
-use Rattle.words.specs.declared.pair.Grown.TheVariants.{Fit, Over}
 use Rattle.words.specs.Pair.{value, pair_of, grown}
 use Rattle.words.specs.Radix.{base_of, worth}
 use Rattle.words.specs.Run.{from, digits, parsed}
 use Rattle.words.proofs.Numbers.{too_far, fit-value, fit-fits, fit_words}
 use Rattle.words.proofs.Carries.{base_large}
+use Rattle.refusals.specs.declared.Refusal.{Refusal}
 
 -- the answer for a run after one that stood for n
-pub after : Radix → ℕ → List ℕ → Parsed
-after r n s = cond (digits r s && ltb (from (base_of r) n s) (2 ^ 128)) (Number (pair_of (from (base_of r) n s))) (Refused ParseIntError)
+pub after : Radix → ℕ → List ℕ → Result Pair Refusal
+after r n s = cond (digits r s && ltb (from (base_of r) n s) (2 ^ 128)) (Ok (pair_of (from (base_of r) n s))) (Err ParseIntError)
 
 -- a longer run stands for no less
 grows : (base n : ℕ) → 2 ≤ base → n ≤ n * base
@@ -42,7 +39,7 @@ unfolding after parsed
 parsed-after r [] h = absurd (omega arith)
 parsed-after r (b ∷ bs) h = refl
 
-pub parsed-empty : (r : Radix) (s : List ℕ) → length s ≡ 0 → Refused ParseIntError ≡ parsed r s
+pub parsed-empty : (r : Radix) (s : List ℕ) → length s ≡ 0 → Err ParseIntError ≡ parsed r s
 unfolding parsed
 parsed-empty r [] h = refl
 parsed-empty r (b ∷ bs) h = absurd (omega arith)
@@ -53,11 +50,11 @@ sofar-start r s p h e =
     (record { within = omega arith; fits = lit< tt; words = refl; rest = parsed-after r s (omega arith) })
 
 -- the three ways that one byte can go
-after_none : (r : Radix) (n b : ℕ) (bs : List ℕ) → base_of r ≤ worth b → after r n (b ∷ bs) ≡ Refused ParseIntError
+after_none : (r : Radix) (n b : ℕ) (bs : List ℕ) → base_of r ≤ worth b → after r n (b ∷ bs) ≡ Err ParseIntError
 unfolding after all
 after_none r n b bs h = rw (le-ltb (worth b) (base_of r) h)
 
-after-over : (r : Radix) (n b : ℕ) (bs : List ℕ) → 2 ^ 128 ≤ n * base_of r + worth b → after r n (b ∷ bs) ≡ Refused ParseIntError
+after-over : (r : Radix) (n b : ℕ) (bs : List ℕ) → 2 ^ 128 ≤ n * base_of r + worth b → after r n (b ∷ bs) ≡ Err ParseIntError
 unfolding after from
 after-over r n b bs h =
     rw (le-ltb _ (2 ^ 128) (le_trans h (from_le (base_of r) (base_large r) (n * base_of r + worth b) bs)))
@@ -71,14 +68,14 @@ module _ (r : Radix) (s : List ℕ) (p : Pair) (i d base : ℕ) (sofar : Sofar r
   open_byte : after r (value p) (get_or s i 0 ∷ drop (i + 1) s) ≡ parsed r s
   open_byte = subst (λ (l : List ℕ). after r (value p) l ≡ parsed r s) (at_place s i less) sofar.rest
 
-  pub sofar-none : base ≤ d → Refused ParseIntError ≡ parsed r s
+  pub sofar-none : base ≤ d → Err ParseIntError ≡ parsed r s
   sofar-none h = sym (after_none r (value p) (get_or s i 0) (drop (i + 1) s) (omega arith)) ∙ open_byte
 
-  module _ (g : Grown) (grew : g ≡ grown (value p * base_of r + d)) where
-    pub sofar-over : g ≡ Over → Refused ParseIntError ≡ parsed r s
+  module _ (g : Option Pair) (grew : g ≡ grown (value p * base_of r + d)) where
+    pub sofar-over : g ≡ None → Err ParseIntError ≡ parsed r s
     sofar-over e = sym (after-over r (value p) (get_or s i 0) (drop (i + 1) s) (subst (λ (x : ℕ). 2 ^ 128 ≤ value p * base_of r + x) is (too_far (value p * base_of r + d) (sym grew ∙ e)))) ∙ open_byte
 
-    pub sofar-next : (next : Pair) → g ≡ Fit next → d < base → Sofar r s next (i + 1)
+    pub sofar-next : (next : Pair) → g ≡ Some next → d < base → Sofar r s next (i + 1)
     sofar-next next e h = record {
       within = omega arith;
       fits = fit-fits _ next (sym grew ∙ e);
@@ -88,9 +85,9 @@ module _ (r : Radix) (s : List ℕ) (p : Pair) (i d base : ℕ) (sofar : Sofar r
           ∙ sym (after_more r (value p) (get_or s i 0) (drop (i + 1) s) (omega arith)) ∙ open_byte;
     }
 
-pub sofar-end : (r : Radix) (s : List ℕ) (p : Pair) (i : ℕ) → Sofar r s p i → length s ≤ i → Number p ≡ parsed r s
+pub sofar-end : (r : Radix) (s : List ℕ) (p : Pair) (i : ℕ) → Sofar r s p i → length s ≤ i → Ok p ≡ parsed r s
 unfolding after from all
 sofar-end r s p i h past =
-    ap Number h.words
+    ap Ok h.words
     ∙ sym (rw (lt-ltb (value p) (2 ^ 128) h.fits))
     ∙ subst (λ (t : List ℕ). after r (value p) t ≡ parsed r s) (drop_of_length-le s past) h.rest

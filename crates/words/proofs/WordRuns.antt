@@ -1,13 +1,11 @@
 -- A run so short that one word holds it, whichever its digits are: the number so far is below the base to the digits read.
 -- Assumes nothing.
-use Rattle.std.proofs.Common.{◌≡◌, ℕ, ◌+◌, ◌*◌, ◌^◌, ◌<◌, ◌≤◌, List, length, get_or, sym, refl, ap, ◌∙◌, subst, le_trans, lt_of_lt_of_le, pow-suc, arith}
+use Rattle.std.proofs.Common.{◌≡◌, ℕ, ◌+◌, ◌*◌, ◌^◌, ◌<◌, ◌≤◌, List, length, get_or, sym, refl, ap, ◌∙◌, subst, le_trans, lt_of_lt_of_le, pow-suc, arith, Err, Ok, Some}
 use native.Mathlib.Nat.{pow-zero, pow-le-pow_right}
 use lib.Arith.{digits_lt}
 use Rattle.refusals.specs.declared.Refusal.TheVariants.{ParseIntError}
 use Rattle.words.specs.declared.digits.Radix.{Radix}
-use Rattle.words.specs.declared.digits.Parsed.TheVariants.{Number, Refused}
 use Rattle.words.specs.declared.pair.Pair.{Pair}
-use Rattle.words.specs.declared.pair.Grown.TheVariants.{Fit}
 use Rattle.words.specs.Pair.{value}
 use Rattle.words.specs.Radix.{base_of, worth}
 use Rattle.words.specs.Run.{parsed}
@@ -30,7 +28,7 @@ pub short-start : (r : Radix) (s : List ℕ) → 0 < length s → Short r s 0 0
 short-start r s h = record { below = omega (arith, pow-zero (base_of r)); sofar = sofar-start r s (word 0) (λ e. omega arith) refl }
 
 module _ (r : Radix) (s : List ℕ) (n i d base : ℕ) (short : Short r s n i) (less : i < length s) (is : d ≡ worth (get_or s i 0)) (of : base ≡ base_of r) where
-  pub short_none : base ≤ d → Refused ParseIntError ≡ parsed r s
+  pub short_none : base ≤ d → Err ParseIntError ≡ parsed r s
   short_none = sofar-none r s (word n) i d base short.sofar less is of
 
   module _ (h : d < base) where
@@ -52,10 +50,10 @@ module _ (r : Radix) (s : List ℕ) (n i d base : ℕ) (short : Short r s n i) (
       short-next = record {
         below = next-below;
         sofar =
-            sofar-next r s (word n) i d base short.sofar less is of (Fit (word (n * base + d)))
-            (ap Fit (pair_is _ (n * base + d) 0 next_fits next-is) ∙ sym (grown-fit _ (fitting _ (n * base + d) 0 next_fits next-is (omega arith))))
+            sofar-next r s (word n) i d base short.sofar less is of (Some (word (n * base + d)))
+            (ap Some (pair_is _ (n * base + d) 0 next_fits next-is) ∙ sym (grown-fit _ (fitting _ (n * base + d) 0 next_fits next-is (omega arith))))
             (word (n * base + d)) refl h;
       }
 
-pub short-end : (r : Radix) (s : List ℕ) (n i : ℕ) → Short r s n i → length s ≤ i → Number (word n) ≡ parsed r s
+pub short-end : (r : Radix) (s : List ℕ) (n i : ℕ) → Short r s n i → length s ≤ i → Ok (word n) ≡ parsed r s
 short-end r s n i h past = sofar-end r s (word n) i h.sofar past

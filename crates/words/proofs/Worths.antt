@@ -1,6 +1,6 @@
 -- What a byte is worth as a digit, by the range that it lies in.
 -- Assumes nothing.
-use Rattle.std.proofs.Common.{◌≡◌, ℕ, ◌+◌, ◌-◌, ◌%◌, ◌^◌, ◌<◌, ◌≤◌, Bool, true, false, cond, leb, ◌∙◌, arith, le-leb}
+use Rattle.std.proofs.Common.{◌≡◌, ℕ, ◌+◌, ◌-◌, ◌%◌, ◌^◌, ◌<◌, ◌≤◌, Bool, true, false, cond, leb, arith, le-leb}
 use borrow.Author.Tests.{lt-leb}
 use Rattle.ground.proofs.Tests.{and-false, by_order}
 use Rattle.words.specs.Radix.{within, worth}
@@ -32,20 +32,8 @@ module _ (b : ℕ) where
 
   -- the distance from `0`, which wraps below it
   module _ (d : ℕ) (wraps : (d + 48) % 2 ^ 8 ≡ b) where
-    pub a-decimal : d < 10 → d ≡ worth b
-    a-decimal h = let e : d ≡ b - 48 = omega arith in e ∙ a-digit (omega arith) (omega arith)
-
     pub no-decimal : d < 2 ^ 8 → 10 ≤ d → b < 65 → 16 ≡ worth b
     no-decimal small h k = by_order b 48 (λ low. below-digits low) (λ high. below_capitals (omega arith) k)
-
-  pub a_capital : 65 ≤ b → b ≤ 70 → b - 55 ≡ worth b
-  a_capital h k = worth-by b false true false (over 48 57 b (omega arith)) (inside 65 70 b h k) (under 97 102 b (omega arith))
-
-  pub below-letters : 70 < b → b < 97 → 16 ≡ worth b
-  below-letters h k = worth-by b false false false (over 48 57 b (omega arith)) (over 65 70 b h) (under 97 102 b k)
-
-  pub a_letter : 97 ≤ b → b ≤ 102 → b - 87 ≡ worth b
-  a_letter h k = worth-by b false false true (over 48 57 b (omega arith)) (over 65 70 b (omega arith)) (inside 97 102 b h k)
 
   pub above-letters : 102 < b → 16 ≡ worth b
   above-letters h = worth-by b false false false (over 48 57 b (omega arith)) (over 65 70 b (omega arith)) (over 97 102 b h)

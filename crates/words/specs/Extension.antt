@@ -1,7 +1,5 @@
 -- SMT-LIB fixed size bit vectors, signed value; document 01, "Bytes to tokens", sign extension of a bit vector's number to 128 bits.
-use Rattle.std.specs.Prelude.{◌≡◌, ℕ, ◌+◌, ◌-◌, ◌*◌, ◌%◌, ◌^◌, Bool, cond, ◌&&◌, ℤ, pos, ◌+ℤ◌, ◌-ℤ◌, neg_ℤ, ◌≤ℤ◌, ◌<ℤ◌, nat_le, nat_lt}
-use Rattle.words.specs.declared.pair.Filled.{Filled}
-use Rattle.words.specs.declared.pair.Filled.TheVariants.{Negative, Positive}
+use Rattle.std.specs.Prelude.{◌≡◌, ℕ, ◌+◌, ◌-◌, ◌*◌, ◌%◌, ◌^◌, Bool, cond, ◌&&◌, ℤ, pos, ◌+ℤ◌, ◌-ℤ◌, neg_ℤ, ◌≤ℤ◌, ◌<ℤ◌, nat_le, nat_lt, None, Option, Some}
 
 -- the signed value of v at a width: v where v < 2^(width-1), else v - 2^width
 unfoldable pub signed : ℕ → ℕ → ℤ
@@ -27,5 +25,5 @@ unfoldable pub extended : ℕ → ℕ → ℕ
 extended width n = cond (nat_lt 0 width && nat_lt width 128 && negative width n) (filled 128 width n) n
 
 -- the same within one word, from a bit on
-unfoldable pub extended_word : ℕ → ℕ → Filled
-extended_word bit n = cond (negative (bit + 1) n) (Negative (filled 64 (bit + 1) n)) Positive
+unfoldable pub extended_word : ℕ → ℕ → Option ℕ
+extended_word bit n = cond (negative (bit + 1) n) (Some (filled 64 (bit + 1) n)) None

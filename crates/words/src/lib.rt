@@ -5,6 +5,6 @@ mod digits;
 mod low;
 mod pair;
 
-pub use digits::{Parsed, Radix, digit_worth, parse};
+pub use digits::{Radix, digit_worth, parse};
 pub use low::low_bits;
-pub use pair::{Grown, Order, Pair};
+pub use pair::{Order, Pair};

@@ -13,8 +13,8 @@ pub fn low_bits(number: Pair, width: u64) -> Pair
     }
     if 64 <= width {
         return Pair {
-            low: number.low,
             high: number.high % (1u64 << (width - 64)),
+            ..number
         };
     }
     Pair {

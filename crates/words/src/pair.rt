@@ -5,6 +5,7 @@ ghost use Rattle.words.specs.Pair.{value, pair_of, grown, ordered};
 ghost use Rattle.words.specs.Radix.{base_of};
 
 use crate::digits::Radix;
+use std::cmp::Ordering;
 
 #[derive(Clone, Copy)]
 pub struct Pair {
@@ -12,13 +13,7 @@ pub struct Pair {
     pub high: u64,
 }
 
-// A number that may have left 128 bits.
-#[derive(Clone, Copy)]
-pub enum Grown {
-    Fit(Pair),
-    Over,
-}
-
+// Stays: its cases hand the number on, as the answers of `add_digit` and `sign_extend` do, so it is no `Ordering`.
 #[derive(Clone, Copy)]
 pub enum Order {
     Less(Pair),
@@ -26,16 +21,7 @@ pub enum Order {
     More(Pair),
 }
 
-// A word whose sign bit was looked at: with ones from that bit on, or as it was.
-#[derive(Clone, Copy)]
-pub enum Filled {
-    Negative(u64),
-    Positive,
-}
-
-const HALF: u64 = 4294967296;
-
-const ONES: u64 = 18446744073709551615;
+const HALF: u64 = 1 << 32;
 
 impl Pair {
     pub fn zero() -> Self
@@ -45,7 +31,7 @@ impl Pair {
     }
 
     // One digit more: each half word times the base, with the carry of the half below it.
-    pub fn add_digit(self, radix: Radix, digit: u8) -> Grown
+    pub fn add_digit(self, radix: Radix, digit: u8) -> Option<Pair>
         ensures { result ≡ grown (value self * base_of radix + digit) }
     {
         let base = radix.base();
@@ -56,9 +42,9 @@ impl Pair {
         let third = high % HALF * base + second / HALF;
         let fourth = high / HALF * base + third / HALF;
         if HALF <= fourth {
-            return Grown::Over;
+            return None;
         }
-        Grown::Fit(Pair {
+        Some(Pair {
             low: second % HALF * HALF + first % HALF,
             high: fourth * HALF + third % HALF,
         })
@@ -68,61 +54,41 @@ impl Pair {
     pub fn sign_extend(self, width: u64) -> Pair
         ensures { result ≡ pair_of (extended width (value self)) }
     {
-        if width == 0 {
-            return self;
-        }
-        if 128 <= width {
+        if width == 0 || 128 <= width {
             return self;
         }
         if width <= 64 {
-            let low = fill_from(self.low, width - 1);
-            let Filled::Negative(filled) = low else {
+            let Some(low) = fill_from(self.low, width - 1) else {
                 return self;
             };
             return Pair {
-                low: filled,
-                high: ONES,
+                low,
+                high: u64::MAX,
             };
         }
-        let high = fill_from(self.high, width - 65);
-        let Filled::Negative(filled) = high else {
+        let Some(high) = fill_from(self.high, width - 65) else {
             return self;
         };
-        Pair {
-            low: self.low,
-            high: filled,
-        }
+        Pair { high, ..self }
     }
 
     // Less, same or more without signs; the number is handed on in the answer, as in `add_digit`'s.
     pub fn compare(self, other: Pair) -> Order
         ensures { result ≡ ordered self (value other) }
     {
-        if self.high < other.high {
-            return Order::Less(self);
+        let by_high = self.high.cmp(&other.high);
+        match by_high.then(self.low.cmp(&other.low)) {
+            Ordering::Less => Order::Less(self),
+            Ordering::Equal => Order::Same(self),
+            Ordering::Greater => Order::More(self),
         }
-        if other.high < self.high {
-            return Order::More(self);
-        }
-        if self.low < other.low {
-            return Order::Less(self);
-        }
-        if other.low < self.low {
-            return Order::More(self);
-        }
-        Order::Same(self)
     }
 
     // The low word read as signed: what Decimal, Datetime and Duration hold.
     pub fn signed_low(self) -> i64
         ensures { result ≡ signed 64 self.low }
     {
-        let low = self.low;
-        if low < 9223372036854775808 {
-            return low as i64;
-        }
-        let below = (ONES - low) as i64;
-        0 - 1 - below
+        self.low.cast_signed()
     }
 
     // Whether the number is 2^width or more, so that width bits do not hold it.
@@ -135,22 +101,19 @@ impl Pair {
         if 64 <= width {
             return 0 < self.high >> (width - 64);
         }
-        if 0 < self.high {
-            return true;
-        }
-        0 < self.low >> width
+        0 < self.high || 0 < self.low >> width
     }
 }
 
 // A word with ones in place of its bits from a bit on, where that bit is set.
-fn fill_from(word: u64, bit: u64) -> Filled
+fn fill_from(word: u64, bit: u64) -> Option<u64>
     requires { bit < 64 }
     ensures { result ≡ extended_word bit word }
 {
     let unit = 1u64 << bit;
     let below = word & (unit - 1);
     if (word >> bit) % 2 == 0 {
-        return Filled::Positive;
+        return None;
     }
-    Filled::Negative(ONES - (unit - 1) + below)
+    Some(u64::MAX - (unit - 1) + below)
 }

@@ -1,19 +1,9 @@
-use native.Mathlib.Omega.{arith}
-use Rattle.decimals.proofs.Counts.{counting_start, counting_fits, counting_step, counting_end}
-use borrow.Author.Rules.{rules}
+use Rattle.std.proofs.Common.{sym, arith}
+use Rattle.decimals.proofs.Counts.{count-one, count-power}
 use Rattle.decimals.proofs.digit_count.Goals as goal
 
-pub loop-rest-init : goal.loop-rest-init
-loop-rest-init c = counting_start _ (search rules)
+pub returns-in-Some : goal.returns-in-Some
+returns-in-Some c = let e = c.in-Some.ensures in count-power c.in-Some.power c.args.number e.bound e.power_le e.next_power_gt
 
-pub overflow_add-count : goal.overflow_add-count
-overflow_add-count c = record { fits = omega (arith, counting_fits _ _ _ c.loop-rest.invariant) }
-
-pub loop-rest-smaller : goal.loop-rest-smaller
-loop-rest-smaller c = omega arith
-
-pub loop-rest-preserved : goal.loop-rest-preserved
-loop-rest-preserved c = counting_step _ _ _ c.loop-rest.invariant c.loop-rest-test.true
-
-pub returns : goal.returns
-returns c = counting_end _ _ _ c.loop-rest.invariant c.loop-rest-test.false
+pub returns-in-None : goal.returns-in-None
+returns-in-None c = sym (count-one c.args.number (omega (arith, c.in-None.ensures.none)))

@@ -1,9 +1,12 @@
+use Prim.Native.Nat.{ℕ, ◌/◌, ◌%◌}
+use native.Mathlib.Omega.{arith}
+use mathlib.Core.Path.{sym, ap, ◌∙◌}
+use Rattle.marks.specs.Mark.{bit}
 use Rattle.marks.proofs.Marks.{marked-is, past-marked}
-use mathlib.Core.Path.{sym}
 use Rattle.marks.proofs.marked.Goals as goal
 
-pub returns-then-marks-place : goal.returns-then-marks-place
-returns-then-marks-place c = past-marked c.args.marks.now c.args.node c.if-marks-place.true
+pub returns-in_default : goal.returns-in_default
+returns-in_default c = past-marked c.args.marks.now c.args.node (omega (arith, c.in_default.ensures.lookup))
 
 pub returns : goal.returns
-returns c = sym (marked-is c.args.marks.now c.args.node)
+returns c = ap (λ (n : ℕ). bit n (c.args.node / 2 % 64)) (grind (arith, c.in-Some.ensures.lookup)) ∙ sym (marked-is c.args.marks.now c.args.node)

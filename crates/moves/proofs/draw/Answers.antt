@@ -1,14 +1,10 @@
-use Rattle.moves.proofs.Draws.{drawing_start, drawing_next, drawing_end, drawing_none}
+use mathlib.Core.Path.{◌∙◌}
+use Rattle.moves.proofs.Draws.{drawing_none, drawn}
 use Rattle.moves.proofs.draw.Goals as goal
-
-pub returns-then-w-j : goal.returns-then-w-j
-returns-then-w-j c = search (drawing_none)
-
-pub loop-i-init : goal.loop-i-init
-loop-i-init c = search (drawing_start)
-
-pub loop-i-preserved : goal.loop-i-preserved
-loop-i-preserved c = search (drawing_next)
+use Rattle.moves.proofs.draw.Goals.{then-w-j, else-w-j}
 
 pub returns : goal.returns
-returns c = search (drawing_end)
+returns c = elim c.if-w-j.branch [
+  | then-w-j w ↦ drawn _ _ _ _ _ c.requires (w.s-is ∙ w.copy_within.ensures.after)
+  | else-w-j w ↦ rw w.s-is (drawing_none _ _ _ _ c.requires w.if-w-j.false)
+]

@@ -1,18 +1,23 @@
 use native.Mathlib.Omega.{arith}
+use Prim.Native.Nat.{◌+◌, ◌-◌}
 use Rattle.arena_check.proofs.Chains.{left-start, left_back, left-past, left-next, left_end}
 use Rattle.arena_check.proofs.node.is_chain.Goals as goal
+use Rattle.arena_check.proofs.node.is_chain.Goals.{then-next-at-via-then-next-at, then-next-at-via-else-next-at+then-end-next}
 
-pub loop-left-init : goal.loop-left-init
-loop-left-init c = left-start _ _ _ _
+pub loop-linked-init : goal.loop-linked-init
+loop-linked-init c = left-start _ _ _ _ _ (omega arith)
 
 pub returns-then-next-at : goal.returns-then-next-at
-returns-then-next-at c = left_back c.loop-left.invariant (omega arith) _ c.after-next.ensures c.if-next-at.true
+returns-then-next-at c =
+    let i = c.loop-linked.invariant in
+    let less = c.args.count - (c.loop-linked.linked + 1) in
+    elim c.then-next-at.branch [
+      | then-next-at-via-then-next-at w ↦ left_back i less (omega arith) _ c.after-next.ensures w.if-next-at.true
+      | then-next-at-via-else-next-at+then-end-next w ↦ left-past i less (omega arith) _ c.after-next.ensures w.if-end-next.true
+    ]
 
-pub returns-then-end-next : goal.returns-then-end-next
-returns-then-end-next c = left-past c.loop-left.invariant (omega arith) _ c.after-next.ensures c.if-end-next.true
-
-pub loop-left-preserved : goal.loop-left-preserved
-loop-left-preserved c = left-next c.loop-left.invariant (omega arith) _ c.after-next.ensures c.if-next-at.false c.if-end-next.false
+pub loop-linked-preserved : goal.loop-linked-preserved
+loop-linked-preserved c = left-next c.loop-linked.invariant (c.args.count - (c.loop-linked.linked + 1)) (omega arith) _ c.after-next.ensures (omega arith) (omega arith)
 
 pub returns : goal.returns
-returns c = left_end c.loop-left.invariant (omega arith)
+returns c = left_end c.loop-linked.invariant (omega arith)

@@ -3,7 +3,7 @@ use Rattle.commands.proofs.Keys.{argument-not, argument-asked}
 use Rattle.commands.proofs.test.is_argument.Goals as goal
 
 pub returns-in_default : goal.returns-in_default
-returns-in_default c = let a = c.args in argument-not a.nodes.now a.text.now a.at a.offset a.size _ c.symbol_at-word.ensures c.in_default.is
+returns-in_default c = argument-not _ _ _ _ _ _ c.symbol_at.ensures c.in_default.is
 
 pub returns : goal.returns
-returns c = let a = c.args in argument-asked a.nodes.now a.text.now a.at a.offset a.size _ c.symbol_at-word.ensures _ _ c.in-Symbol.is _ (c.clamp-range.ensures.holds a.text.now refl) c.text_is.result c.text_is.ensures
+returns c = argument-asked _ _ _ _ _ _ c.symbol_at.ensures _ _ c.in-Some.is _ (c.clamp-range.ensures.holds _ refl) c.text_is.result c.text_is.ensures

@@ -5,20 +5,20 @@ use Rattle.commands.proofs.Tests.{tests-atom, tests-empty, tests_headless, tests
 use Rattle.shapes.proofs.Seen.{list-within}
 use Rattle.commands.proofs.test.tests_at.Goals as goal
 
-pub returns-in_default : goal.returns-in_default
-returns-in_default c = let a = c.args in tests-atom a.nodes.now a.text.now a.at _ c.list_at-list.ensures c.in_default.is
+pub returns-in_err-count : goal.returns-in_err-count
+returns-in_err-count c = rw c.from_residual.ensures (tests-atom _ _ _ _ c.list_at.ensures c.in_err-count.was)
 
 pub returns-then-count-eq0 : goal.returns-then-count-eq0
-returns-then-count-eq0 c = let a = c.args in tests-empty a.nodes.now a.text.now a.at _ c.list_at-list.ensures _ c.in-Children.is c.if-count-eq0.true
+returns-then-count-eq0 c = tests-empty _ _ _ _ c.list_at.ensures _ c.in_ok-count.was c.if-count-eq0.true
 
 pub overflow_add-head : goal.overflow_add-head
-overflow_add-head c = let a = c.args in record { fits = omega (arith, list-within a.nodes.now a.at _ c.list_at-list.ensures _ c.in-Children.is) }
+overflow_add-head c = record { fits = omega (arith, list-within _ _ _ c.list_at.ensures _ c.in_ok-count.was) }
 
-pub returns-in_default-word : goal.returns-in_default-word
-returns-in_default-word c = let a = c.args in tests_headless a.nodes.now a.text.now a.at _ c.list_at-list.ensures _ c.in-Children.is c.if-count-eq0.false _ refl _ c.symbol_at-word.ensures c.in_default-word.is
+pub returns-in_err-word : goal.returns-in_err-word
+returns-in_err-word c = rw c.from_residual-in_err-word.ensures (tests_headless _ _ _ _ c.list_at.ensures _ c.in_ok-count.was c.if-count-eq0.false _ refl _ c.symbol_at.ensures c.in_err-word.was)
 
 pub returns-then-text_is : goal.returns-then-text_is
-returns-then-text_is c = let a = c.args in tests_or a.nodes.now a.text.now a.at _ c.list_at-list.ensures _ c.in-Children.is c.if-count-eq0.false _ refl _ c.symbol_at-word.ensures _ _ c.in-Symbol.is (sym c.text_is.ensures ∙ c.if-text_is.true) _ c.after-first.ensures
+returns-then-text_is c = tests_or _ _ _ _ c.list_at.ensures _ c.in_ok-count.was c.if-count-eq0.false _ refl _ c.symbol_at.ensures _ _ c.in_ok-word.was (sym c.text_is.ensures ∙ c.if-text_is.true) _ c.after-first.ensures
 
 pub returns : goal.returns
-returns c = let a = c.args in tests-other a.nodes.now a.text.now a.at _ c.list_at-list.ensures _ c.in-Children.is c.if-count-eq0.false _ refl _ c.symbol_at-word.ensures _ _ c.in-Symbol.is (sym c.text_is.ensures ∙ c.if-text_is.false)
+returns c = tests-other _ _ _ _ c.list_at.ensures _ c.in_ok-count.was c.if-count-eq0.false _ refl _ c.symbol_at.ensures _ _ c.in_ok-word.was (sym c.text_is.ensures ∙ c.if-text_is.false)

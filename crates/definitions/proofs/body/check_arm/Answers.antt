@@ -1,8 +1,19 @@
+use mathlib.Core.Path.{◌≡◌}
+use Rattle.std.proofs.Common.{None, Some, Option, ℕ, arith}
+use Rattle.std.proofs.lemmas.Result.{err_from_is_err_and}
+use Rattle.refusals.specs.declared.Refusal.{Refusal}
+use Rattle.refusals.specs.declared.Refusal.TheVariants.{UnexpectedForm}
 use Rattle.definitions.proofs.Arms.{arm-keyed, arm_shapeless}
 use Rattle.definitions.proofs.body.check_arm.Goals as goal
 
-pub returns-in-Key : goal.returns-in-Key
-returns-in-Key c = let a = c.args in arm-keyed a.sorts.now a.fields.now a.members.now a.names.now a.nodes.now a.text.now a.offset a.size a.argument a.test c.key_at-key.result c.key_at-key.ensures a.res a.value _ c.in-Key.is c.decode_literal-first.result c.decode_literal-second.result c.decode_literal-first.ensures c.decode_literal-second.ensures c.arm_of.result c.arm_of.ensures
+pub returns-in_err-node : goal.returns-in_err-node
+returns-in_err-node c =
+    let p = err_from_is_err_and c.from_residual.result c.from_residual.ensures.1 in
+    let n : ◌≡◌ {A = Option ℕ} c.key_at.result None = grind arith in
+    let r : ◌≡◌ {A = Refusal} c.in_err-node.field-0.0 UnexpectedForm = grind arith in
+    rw (p.1, p.2, r) (arm_shapeless _ _ _ _ _ _ _ _ _ _ _ c.key_at.ensures _ _ n)
 
-pub returns-in-NoKey : goal.returns-in-NoKey
-returns-in-NoKey c = let a = c.args in arm_shapeless a.sorts.now a.fields.now a.members.now a.names.now a.nodes.now a.text.now a.offset a.size a.argument a.test c.key_at-key.result c.key_at-key.ensures a.res a.value c.in-NoKey.is
+pub returns : goal.returns
+returns c =
+    let n : ◌≡◌ {A = Option ℕ} c.key_at.result (Some c.in_ok-node.node) = grind arith in
+    arm-keyed _ _ _ _ _ _ _ _ _ _ _ c.key_at.ensures _ _ _ n _ _ c.decode_literal-key.ensures c.decode_literal-literal.ensures _ c.arm_of.ensures

@@ -1,8 +1,19 @@
+use mathlib.Core.Path.{◌≡◌}
+use Rattle.std.proofs.Common.{None, Some, Option, ℕ, arith}
+use Rattle.std.proofs.lemmas.Result.{err_from_is_err_and}
+use Rattle.refusals.specs.declared.Refusal.{Refusal}
+use Rattle.refusals.specs.declared.Refusal.TheVariants.{UnexpectedForm}
 use Rattle.definitions.proofs.Arms.{test_keyed, test_shapeless}
 use Rattle.definitions.proofs.body.check_test.Goals as goal
 
-pub returns-in-Key : goal.returns-in-Key
-returns-in-Key c = let a = c.args in test_keyed a.sorts.now a.fields.now a.members.now a.names.now a.nodes.now a.text.now a.offset a.size a.argument a.test c.key_at-key.result c.key_at-key.ensures _ c.in-Key.is c.decode_literal-literal.result c.decode_literal-literal.ensures c.value_of-measured.result c.test_as.result c.value_of-measured.ensures c.test_as.ensures
+pub returns-in_err-node : goal.returns-in_err-node
+returns-in_err-node c =
+    let p = err_from_is_err_and c.from_residual.result c.from_residual.ensures.1 in
+    let n : ◌≡◌ {A = Option ℕ} c.key_at.result None = grind arith in
+    let r : ◌≡◌ {A = Refusal} c.in_err-node.field-0.0 UnexpectedForm = grind arith in
+    rw (p.1, p.2, r) (test_shapeless _ _ _ _ _ _ _ _ _ _ _ c.key_at.ensures n)
 
-pub returns-in-NoKey : goal.returns-in-NoKey
-returns-in-NoKey c = let a = c.args in test_shapeless a.sorts.now a.fields.now a.members.now a.names.now a.nodes.now a.text.now a.offset a.size a.argument a.test c.key_at-key.result c.key_at-key.ensures c.in-NoKey.is
+pub returns : goal.returns
+returns c =
+    let n : ◌≡◌ {A = Option ℕ} c.key_at.result (Some c.in_ok-node.node) = grind arith in
+    test_keyed _ _ _ _ _ _ _ _ _ _ _ c.key_at.ensures _ n _ c.decode_literal-key.ensures _ _ c.value_of.ensures c.test_as.ensures

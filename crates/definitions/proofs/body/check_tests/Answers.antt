@@ -1,15 +1,18 @@
 use native.Mathlib.Omega.{arith}
+use Rattle.std.proofs.lemmas.Result.{err_from_is_err_and}
 use Rattle.definitions.proofs.Tests.{tests-start, tests-end, tests-refused, tests-next}
 use Rattle.definitions.proofs.body.check_tests.Goals as goal
 
-pub loop-i-init : goal.loop-i-init
-loop-i-init c = let a = c.args in (omega arith, tests-start a.sorts.now a.fields.now a.members.now a.names.now a.nodes.now a.text.now a.offset a.size a.argument a.first a.count)
+pub loop-init : goal.loop-init
+loop-init c = tests-start _ _ _ _ _ _ _ _ _ _ _
 
-pub returns-in-Refused : goal.returns-in-Refused
-returns-in-Refused c = let a = c.args in tests-refused a.sorts.now a.fields.now a.members.now a.names.now a.nodes.now a.text.now a.offset a.size a.argument a.first a.count c.loop-i.at c.loop-i.total c.loop-i.i c.loop-i.invariant.1 (omega arith) c.check_test-test.result c.check_test-test.ensures _ c.in-Refused.is
+pub returns-in_err-need : goal.returns-in_err-need
+returns-in_err-need c =
+    let p = err_from_is_err_and c.from_residual.result c.from_residual.ensures.1 in
+    rw (p.1, p.2) (tests-refused _ _ _ _ _ _ _ _ _ _ _ _ _ _ c.loop.invariant (omega arith) _ c.check_test.ensures _ c.in_err-need.was)
 
-pub loop-i-preserved : goal.loop-i-preserved
-loop-i-preserved c = let a = c.args in (omega arith, tests-next a.sorts.now a.fields.now a.members.now a.names.now a.nodes.now a.text.now a.offset a.size a.argument a.first a.count c.loop-i.at c.loop-i.total c.loop-i.i c.loop-i.invariant.1 (omega arith) c.check_test-test.result c.check_test-test.ensures _ c.in-Need.is _ c.plus-total.ensures _ c.after-at.ensures)
+pub loop-preserved : goal.loop-preserved
+loop-preserved c = tests-next _ _ _ _ _ _ _ _ _ _ _ _ _ _ c.loop.invariant (omega arith) _ c.check_test.ensures _ c.in_ok-need.was _ c.plus-total.ensures _ c.after-at.ensures
 
 pub returns : goal.returns
-returns c = let a = c.args in tests-end a.sorts.now a.fields.now a.members.now a.names.now a.nodes.now a.text.now a.offset a.size a.argument a.first a.count c.loop-i.at c.loop-i.total c.loop-i.i c.loop-i.invariant.1 (omega arith) _ c.plus.ensures
+returns c = tests-end _ _ _ _ _ _ _ _ _ _ _ _ _ _ c.loop.invariant (omega arith) _ c.plus.ensures

@@ -1,20 +1,25 @@
 use mathlib.Core.Path.{◌∙◌, ap}
+use Prim.Native.Nat.{ℕ, ◌+◌}
+use Rattle.std.proofs.lemmas.Result.{err_from_is_err_and}
 use Rattle.definitions.proofs.Measures.{arm-first, arm-second, arm-key, arm-value, arm-both}
 use Rattle.literals.specs.Answer.{capped}
-use Prim.Native.Nat.{ℕ, ◌+◌}
 use Rattle.definitions.proofs.measure.arm_of.Goals as goal
+use Rattle.definitions.proofs.measure.arm_of.Goals.{then-key-argument-via-then-key-argument, then-key-argument-via-else-key-argument+then-not-fits}
 
-pub returns-then-row-argument : goal.returns-then-row-argument
-returns-then-row-argument c = let a = c.args in arm-key a.key a.value a.argument a.res _ _ _ c.in-Value.is _ _ _ c.in-Value-value.is c.if-row-argument.true
+pub returns-in_err-key : goal.returns-in_err-key
+returns-in_err-key c = let p = err_from_is_err_and c.from_residual.result c.from_residual.ensures.1 in rw (p.1, p.2) (arm-first _ _ _ _ _ c.in_err-key.was)
 
-pub returns-then-other-res : goal.returns-then-other-res
-returns-then-other-res c = let a = c.args in arm-value a.key a.value a.argument a.res _ _ _ c.in-Value.is _ _ _ c.in-Value-value.is c.if-row-argument.false c.if-other-res.true
+pub returns-in_err-value : goal.returns-in_err-value
+returns-in_err-value c =
+    let p = err_from_is_err_and c.from_residual-in_err-value.result c.from_residual-in_err-value.ensures.1 in
+    rw (p.1, p.2) (arm-second _ _ _ _ _ _ _ c.in_ok-key.was _ c.in_err-value.was)
 
-pub returns-else-other-res : goal.returns-else-other-res
-returns-else-other-res c = let a = c.args in arm-both a.key a.value a.argument a.res _ _ _ c.in-Value.is _ _ _ c.in-Value-value.is c.if-row-argument.false c.if-other-res.false _ (c.plus-in-Value-value.ensures ∙ ap (λ (n : ℕ). capped (n + 12)) c.plus.ensures)
+pub returns-then-key-argument : goal.returns-then-key-argument
+returns-then-key-argument c =
+    elim c.then-key-argument.branch [
+      | then-key-argument-via-then-key-argument w ↦ arm-key _ _ _ _ _ _ _ c.in_ok-key.was _ _ _ c.in_ok-value.was w.if-key-argument.true
+      | then-key-argument-via-else-key-argument+then-not-fits w ↦ arm-value _ _ _ _ _ _ _ c.in_ok-key.was _ _ _ c.in_ok-value.was w.if-key-argument.false w.if-not-fits.true
+    ]
 
-pub returns-in-Refused-value : goal.returns-in-Refused-value
-returns-in-Refused-value c = let a = c.args in arm-second a.key a.value a.argument a.res _ _ _ c.in-Value.is _ c.in-Refused-value.is
-
-pub returns-in-Refused : goal.returns-in-Refused
-returns-in-Refused c = let a = c.args in arm-first a.key a.value a.argument a.res _ c.in-Refused.is
+pub returns : goal.returns
+returns c = arm-both _ _ _ _ _ _ _ c.in_ok-key.was _ _ _ c.in_ok-value.was c.if-key-argument.false c.if-not-fits.false _ (c.plus-2.ensures ∙ ap (λ (n : ℕ). capped (n + 12)) c.plus.ensures)

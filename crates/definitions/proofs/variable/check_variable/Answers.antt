@@ -1,8 +1,9 @@
+use Rattle.std.proofs.lemmas.Result.{err_from_is_err_and}
 use Rattle.definitions.proofs.Variables.{variable-sort, variable-value}
 use Rattle.definitions.proofs.variable.check_variable.Goals as goal
 
-pub returns-in-Row : goal.returns-in-Row
-returns-in-Row c = let a = c.args in variable-value a.sorts.now a.fields.now a.members.now a.names.now a.nodes.now a.text.now a.declared a.sort a.value c.read_sort-sorted.result c.read_sort-sorted.ensures _ c.in-Row.is c.check_value-measured.result c.check_value-measured.ensures _ c.declared_as.ensures
+pub returns-in_err-row : goal.returns-in_err-row
+returns-in_err-row c = let p = err_from_is_err_and c.from_residual.result c.from_residual.ensures.1 in rw (p.1, p.2) (variable-sort _ _ _ _ _ _ _ _ _ _ c.read_sort.ensures _ c.in_err-row.was)
 
-pub returns-in-Refused : goal.returns-in-Refused
-returns-in-Refused c = let a = c.args in variable-sort a.sorts.now a.fields.now a.members.now a.names.now a.nodes.now a.text.now a.declared a.sort a.value c.read_sort-sorted.result c.read_sort-sorted.ensures _ c.in-Refused.is
+pub returns : goal.returns
+returns c = variable-value _ _ _ _ _ _ _ _ _ _ c.read_sort.ensures _ c.in_ok-row.was _ c.check_value-measured.ensures _ c.declared_as.ensures

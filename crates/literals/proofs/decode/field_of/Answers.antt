@@ -1,11 +1,12 @@
+use Rattle.std.proofs.lemmas.Result.{err_from_is_err_and}
 use Rattle.literals.proofs.Fields.{field-other, field-takes, field-refused}
 use Rattle.literals.proofs.decode.field_of.Goals as goal
 
-pub returns-then-row-wanted : goal.returns-then-row-wanted
-returns-then-row-wanted c = field-other _ _ _ _ _ c.in-Value.is c.if-row-wanted.true
+pub returns-then-found-wanted : goal.returns-then-found-wanted
+returns-then-found-wanted c = field-other _ _ _ c.in_ok-found.was c.if-found-wanted.true
 
-pub returns-else-row-wanted : goal.returns-else-row-wanted
-returns-else-row-wanted c = field-takes _ _ _ _ _ c.in-Value.is c.if-row-wanted.false
+pub returns : goal.returns
+returns c = field-takes _ _ _ c.in_ok-found.was c.if-found-wanted.false
 
-pub returns-in-Refused : goal.returns-in-Refused
-returns-in-Refused c = field-refused _ _ _ c.in-Refused.is
+pub returns-in_err-found : goal.returns-in_err-found
+returns-in_err-found c = let p = err_from_is_err_and c.from_residual.result c.from_residual.ensures.1 in rw (p.1, p.2) (field-refused _ _ _ c.in_err-found.was)

@@ -1,11 +1,15 @@
-use Rattle.literals.proofs.Forms.{bare-none, bare-empty, bare-refused}
+use Rattle.literals.specs.declared.form.Form.{Form}
+use Rattle.literals.proofs.Forms.{bare-none, bare-empty, bare-row, bare_missing}
 use Rattle.literals.proofs.form.bare_of.Goals as goal
 
-pub returns-in-Option : goal.returns-in-Option
-returns-in-Option c = let a = c.args in bare-none a.sorts.now a.sorted a.form _ c.in-Row.is c.inside_row-inside.result c.inside_row-inside.ensures c.bare_none.result c.in-Option.is c.bare_none.ensures
+pub returns-in-Some : goal.returns-in-Some
+returns-in-Some c = let a = c.args in bare-none a.sorts.now a.row a.form c.inside_row-inside.result c.inside_row-inside.ensures _ c.in-Option.is (bare-row Form.Option a.row _ _ c.in-Some.is)
 
-pub returns-in-Set : goal.returns-in-Set
-returns-in-Set c = let a = c.args in bare-empty a.sorts.now a.sorted a.form _ c.in-Row.is c.inside_row-inside.result c.inside_row-inside.ensures c.bare_empty.result c.in-Set.is c.bare_empty.ensures
+pub returns-in-None : goal.returns-in-None
+returns-in-None c = let a = c.args in bare-none a.sorts.now a.row a.form c.inside_row-inside.result c.inside_row-inside.ensures _ c.in-Option.is (bare_missing Form.Option a.row _ c.in-None.is)
 
-pub returns-in-Refused : goal.returns-in-Refused
-returns-in-Refused c = let a = c.args in bare-refused a.sorts.now a.sorted a.form _ c.in-Refused.is
+pub returns-in-Some-inside : goal.returns-in-Some-inside
+returns-in-Some-inside c = let a = c.args in bare-empty a.sorts.now a.row a.form c.inside_row-inside.result c.inside_row-inside.ensures _ c.in-Set.is (bare-row Form.Set a.row _ _ c.in-Some-inside.is)
+
+pub returns-in-None-inside : goal.returns-in-None-inside
+returns-in-None-inside c = let a = c.args in bare-empty a.sorts.now a.row a.form c.inside_row-inside.result c.inside_row-inside.ensures _ c.in-Set.is (bare_missing Form.Set a.row _ c.in-None-inside.is)

@@ -1,11 +1,10 @@
-use Rattle.literals.proofs.Answers.{match_other, match_same, match_refused}
+use mathlib.Core.Path.{refl}
+use Rattle.std.proofs.Common.{Ok}
+use Rattle.literals.proofs.Answers.{match_other, match_same}
 use Rattle.literals.proofs.form.matched.Goals as goal
 
-pub returns-then-row-wanted : goal.returns-then-row-wanted
-returns-then-row-wanted c = let a = c.args in match_other a.literal a.wanted _ _ _ c.in-Value.is c.if-row-wanted.true
+pub returns-then-literal-wanted : goal.returns-then-literal-wanted
+returns-then-literal-wanted c = let a = c.args in match_other (Ok a.literal) a.wanted a.literal.row a.literal.need a.literal.is_set refl c.if-literal-wanted.true
 
-pub returns-else-row-wanted : goal.returns-else-row-wanted
-returns-else-row-wanted c = let a = c.args in match_same a.literal a.wanted _ _ _ c.in-Value.is c.if-row-wanted.false
-
-pub returns-in-Refused : goal.returns-in-Refused
-returns-in-Refused c = let a = c.args in match_refused a.literal a.wanted _ c.in-Refused.is
+pub returns : goal.returns
+returns c = let a = c.args in match_same (Ok a.literal) a.wanted a.literal.row a.literal.need a.literal.is_set refl c.if-literal-wanted.false

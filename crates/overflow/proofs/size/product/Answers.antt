@@ -1,23 +1,22 @@
-use Rattle.std.proofs.Common.{sym, ap, ◌∙◌, leb-false, leb-true}
-use Rattle.words.specs.Pair.{value, grown}
-use Rattle.words.proofs.Numbers.{fit-value}
-use Rattle.overflow.proofs.Products.{product-start, product-step, product-falls, total_past, unit-past, product-end}
+use Rattle.std.proofs.Common.{arith, rules}
+use Rattle.overflow.proofs.Sizes.{left-none, right-none, product-words, product-past, words-past, words-fit}
 use Rattle.overflow.proofs.size.product.Goals as goal
+use Rattle.overflow.proofs.size.product.Goals.{else-left-gt0-via-then-left-gt0+else-right-gt0, else-left-gt0-via-else-left-gt0, then-over-gt0-via-then-over-gt0, then-over-gt0-via-else-over-gt0+then-above-gt0}
 
-pub loop-total-init : goal.loop-total-init
-loop-total-init c = product-start _ _ _ (ap value c.zero-total.ensures)
+pub returns-then-right-gt0 : goal.returns-then-right-gt0
+returns-then-right-gt0 c = product-past c.args.left.low c.args.left.high c.args.right.low c.args.right.high c.if-left-gt0.true c.if-right-gt0.true
 
-pub returns-in_default : goal.returns-in_default
-returns-in_default c = total_past _ _ _ _ c.loop-total.invariant (sym c.in_default.is ∙ c.added.ensures)
-
-pub returns-in_default-sum : goal.returns-in_default-sum
-returns-in_default-sum c = unit-past _ _ _ _ c.loop-total.invariant (leb-true _ _ (sym c.reaches.ensures ∙ c.loop-total-test.true)) (sym c.in_default-sum.is ∙ c.sum.ensures)
-
-pub loop-total-smaller : goal.loop-total-smaller
-loop-total-smaller c = product-falls _ _ (leb-true _ _ (sym c.reaches.ensures ∙ c.loop-total-test.true)) c.halved-rest.ensures
-
-pub loop-total-preserved : goal.loop-total-preserved
-loop-total-preserved c = product-step _ _ _ _ c.loop-total.invariant _ _ _ (fit-value _ _ (sym c.added.ensures ∙ c.in-Fit.is)) (fit-value _ _ (sym c.sum.ensures ∙ c.in-Fit-sum.is)) c.halved-rest.ensures
+pub returns-then-over-gt0 : goal.returns-then-over-gt0
+returns-then-over-gt0 c = words-past _ _ _ _ (search rules) (product-words c.args.left.low c.args.left.high c.args.right.low c.args.right.high _ _ _ _ _ _ (elim c.else-left-gt0.branch [
+  | else-left-gt0-via-then-left-gt0+else-right-gt0 w ↦ right-none c.args.left.high c.args.right.high w.if-right-gt0.false
+  | else-left-gt0-via-else-left-gt0 w ↦ left-none c.args.left.high c.args.right.high w.if-left-gt0.false
+]) c.carrying_mul-low.ensures c.carrying_mul-middle.ensures c.carrying_mul-high.ensures) (elim c.then-over-gt0.branch [
+  | then-over-gt0-via-then-over-gt0 w ↦ omega arith
+  | then-over-gt0-via-else-over-gt0+then-above-gt0 w ↦ omega arith
+])
 
 pub returns : goal.returns
-returns c = c.added-2.ensures ∙ ap grown (product-end _ _ _ _ c.loop-total.invariant (leb-false _ _ (sym c.reaches.ensures ∙ c.loop-total-test.false)))
+returns c = words-fit _ _ _ _ (search rules) (product-words c.args.left.low c.args.left.high c.args.right.low c.args.right.high _ _ _ _ _ _ (elim c.else-left-gt0.branch [
+  | else-left-gt0-via-then-left-gt0+else-right-gt0 w ↦ right-none c.args.left.high c.args.right.high w.if-right-gt0.false
+  | else-left-gt0-via-else-left-gt0 w ↦ left-none c.args.left.high c.args.right.high w.if-left-gt0.false
+]) c.carrying_mul-low.ensures c.carrying_mul-middle.ensures c.carrying_mul-high.ensures) (omega arith) (search rules)

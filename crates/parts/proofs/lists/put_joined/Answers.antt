@@ -1,21 +1,20 @@
-use native.Mathlib.Omega.{arith}
-use Rattle.parts.proofs.Trails.{rise-next, joined-none, joined-all}
+use Rattle.parts.proofs.Trails.{trailing_start, trailing_next, trailing_step, trailing_end}
 use Rattle.parts.proofs.lists.put_joined.Goals as goal
 
-pub returns-then-ends-eq0 : goal.returns-then-ends-eq0
-returns-then-ends-eq0 c = let a = c.args in joined-none _ a.string.now a.ends.now _ _ (omega (arith, c.if-ends-eq0.true))
+pub loop-end-init : goal.loop-end-init
+loop-end-init c = trailing_start _ _ _ _ _ c.requires
 
 pub slice_bounds-put-count : goal.slice_bounds-put-count
-slice_bounds-put-count c = let a = c.args in (rise-next 0 a.string.now a.ends.now 0 (omega (arith, c.if-ends-eq0.false)) c.requires).up
+slice_bounds-put-count c = (trailing_next _ _ _ _ _ _ _ _ _ _ c.loop-end.invariant c.loop-end-test.true).up
 
 pub slice_bounds-put-start : goal.slice_bounds-put-start
-slice_bounds-put-start c = let a = c.args in (rise-next 0 a.string.now a.ends.now 0 (omega (arith, c.if-ends-eq0.false)) c.requires).up
+slice_bounds-put-start c = (trailing_next _ _ _ _ _ _ _ _ _ _ c.loop-end.invariant c.loop-end-test.true).up
 
 pub slice_bounds-put-end : goal.slice_bounds-put-end
-slice_bounds-put-end c = let a = c.args in (rise-next 0 a.string.now a.ends.now 0 (omega (arith, c.if-ends-eq0.false)) c.requires).within
+slice_bounds-put-end c = (trailing_next _ _ _ _ _ _ _ _ _ _ c.loop-end.invariant c.loop-end-test.true).within
 
-pub put_trailed-requires : goal.put_trailed-requires
-put_trailed-requires c = let a = c.args in (rise-next 0 a.string.now a.ends.now 0 (omega (arith, c.if-ends-eq0.false)) c.requires).rest
+pub loop-end-preserved : goal.loop-end-preserved
+loop-end-preserved c = trailing_step _ _ _ _ _ _ _ _ _ _ c.loop-end.invariant c.loop-end-test.true _ _ _ _ c.put-behind.ensures c.put-to.ensures
 
 pub returns : goal.returns
-returns c = let a = c.args in joined-all _ a.string.now a.ends.now _ _ (omega (arith, c.if-ends-eq0.false)) _ _ _ _ c.put-to.ensures c.put_trailed.ensures
+returns c = trailing_end _ _ _ _ _ _ _ _ _ _ c.loop-end.invariant c.loop-end-test.false

@@ -1,30 +1,29 @@
-use native.Mathlib.Omega.{arith}
-use Rattle.parts.proofs.Trails.{rise-next, rise-two, pairs-none, pairs-all}
+use Rattle.parts.proofs.Trails.{pairing_start, pairing_one, pairing_two, pairing_step, pairing_end}
 use Rattle.parts.proofs.lists.put_pairs.Goals as goal
 
-pub returns-then-ends-lt2 : goal.returns-then-ends-lt2
-returns-then-ends-lt2 c = let a = c.args in pairs-none a.string.now a.ends.now _ _ c.if-ends-lt2.true
+pub loop-rest-init : goal.loop-rest-init
+loop-rest-init c = pairing_start _ _ _ _ c.requires
 
 pub slice_bounds-put_pair-count : goal.slice_bounds-put_pair-count
-slice_bounds-put_pair-count c = let a = c.args in (rise-next 0 a.string.now a.ends.now 0 (omega (arith, c.if-ends-lt2.false)) c.requires).up
+slice_bounds-put_pair-count c = (pairing_one _ _ _ _ _ _ _ _ _ c.in-len2-up.len_at_least c.loop-rest.invariant).up
 
 pub slice_bounds-put_pair-start : goal.slice_bounds-put_pair-start
-slice_bounds-put_pair-start c = let a = c.args in (rise-next 0 a.string.now a.ends.now 0 (omega (arith, c.if-ends-lt2.false)) c.requires).up
+slice_bounds-put_pair-start c = (pairing_one _ _ _ _ _ _ _ _ _ c.in-len2-up.len_at_least c.loop-rest.invariant).up
 
-pub slice_bounds-put_pair-end-2 : goal.slice_bounds-put_pair-end-2
-slice_bounds-put_pair-end-2 c = let a = c.args in (rise-next 0 a.string.now a.ends.now 0 (omega (arith, c.if-ends-lt2.false)) c.requires).within
+pub slice_bounds-put_pair-end : goal.slice_bounds-put_pair-end
+slice_bounds-put_pair-end c = (pairing_one _ _ _ _ _ _ _ _ _ c.in-len2-up.len_at_least c.loop-rest.invariant).within
 
-pub slice_bounds-put_pair-count-2 : goal.slice_bounds-put_pair-count-2
-slice_bounds-put_pair-count-2 c = let a = c.args in (rise-two 0 a.string.now a.ends.now 0 (omega (arith, c.if-ends-lt2.false)) c.requires).up
+pub slice_bounds-put_pair-count-in-len2-up : goal.slice_bounds-put_pair-count-in-len2-up
+slice_bounds-put_pair-count-in-len2-up c = (pairing_two _ _ _ _ _ _ _ _ _ c.in-len2-up.len_at_least c.loop-rest.invariant).up
 
-pub slice_bounds-put_pair-start-2 : goal.slice_bounds-put_pair-start-2
-slice_bounds-put_pair-start-2 c = let a = c.args in (rise-two 0 a.string.now a.ends.now 0 (omega (arith, c.if-ends-lt2.false)) c.requires).up
+pub slice_bounds-put_pair-start-in-len2-up : goal.slice_bounds-put_pair-start-in-len2-up
+slice_bounds-put_pair-start-in-len2-up c = (pairing_two _ _ _ _ _ _ _ _ _ c.in-len2-up.len_at_least c.loop-rest.invariant).up
 
-pub slice_bounds-put_pair-end-3 : goal.slice_bounds-put_pair-end-3
-slice_bounds-put_pair-end-3 c = let a = c.args in (rise-two 0 a.string.now a.ends.now 0 (omega (arith, c.if-ends-lt2.false)) c.requires).within
+pub slice_bounds-put_pair-end-in-len2-up : goal.slice_bounds-put_pair-end-in-len2-up
+slice_bounds-put_pair-end-in-len2-up c = (pairing_two _ _ _ _ _ _ _ _ _ c.in-len2-up.len_at_least c.loop-rest.invariant).within
 
-pub put_trailed_pairs-requires : goal.put_trailed_pairs-requires
-put_trailed_pairs-requires c = let a = c.args in (rise-two 0 a.string.now a.ends.now 0 (omega (arith, c.if-ends-lt2.false)) c.requires).rest
+pub loop-rest-preserved : goal.loop-rest-preserved
+loop-rest-preserved c = pairing_step _ _ _ _ _ _ _ _ _ c.in-len2-up.len_at_least c.loop-rest.invariant _ _ c.put_pair-to.ensures
 
 pub returns : goal.returns
-returns c = let a = c.args in pairs-all a.string.now a.ends.now _ _ (omega (arith, c.if-ends-lt2.false)) _ _ _ _ c.put_pair-to.ensures c.put_trailed_pairs.ensures
+returns c = pairing_end _ _ _ _ _ _ _ _ _ c.in_default.len_below c.loop-rest.invariant

@@ -1,12 +1,7 @@
-use Prim.Native.Nat.{◌-◌}
 use mathlib.Core.List.{map}
-use lib.ListN.{length}
 use Rattle.lent.proofs.Copies.{Copying}
 use Rattle.parts.specs.Texts.{spaced}
 use Rattle.parts.proofs.spaced.copy_spaced.Given as goal
 
 abbrev pub invariant-loop-at : goal.invariant-loop-at
 invariant-loop-at l = Copying (map spaced l.text) l.initial.out l.out l.at
-
-abbrev pub decreases-loop-at : goal.decreases-loop-at
-decreases-loop-at l = length l.text - l.at

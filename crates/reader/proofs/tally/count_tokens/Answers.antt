@@ -1,3 +1,4 @@
+use Rattle.std.proofs.lemmas.Result.{err_from_is_err_and}
 use mathlib.Core.Path.{sym, ◌∙◌, subst}
 use native.Mathlib.Omega.{arith}
 use Rattle.tokens.proofs.Lexes.{found_some, found_within, found-there, bytes_of}
@@ -28,11 +29,14 @@ slice_bounds-turn-start c = omega arith
 pub slice_bounds-turn-end : goal.slice_bounds-turn-end
 slice_bounds-turn-end c = let a = c.args in omega (arith, found_within a.s.now c.loop-at.at _ c.loop-at-test.true c.lexeme_at-found.ensures, found-there a.s.now c.loop-at.at _ c.loop-at-test.true c.lexeme_at-found.ensures)
 
-pub turn-next-requires : goal.turn-next-requires
-turn-next-requires c = let a = c.args in ample a.s.now c.loop-at.at c.loop-at.scan c.lexeme_at-found.result c.loop-at.invariant (bytes_of a.s.now (λ i. (c.shared_slice_known-1.given i).fits)) c.loop-at-test.true c.lexeme_at-found.ensures c.requires.1
+pub turn-requires : goal.turn-requires
+turn-requires c = let a = c.args in ample a.s.now c.loop-at.at c.loop-at.scan c.lexeme_at-found.result c.loop-at.invariant (bytes_of a.s.now (λ i. (c.type_inv.s i).fits)) c.loop-at-test.true c.lexeme_at-found.ensures c.requires.1
 
-pub returns-in_default : goal.returns-in_default
-returns-in_default c = let a = c.args in sofar-fault a.s.now c.loop-at.at c.loop-at.scan c.lexeme_at-found.result c.loop-at.invariant (bytes_of a.s.now (λ i. (c.shared_slice_known-1.given i).fits)) c.loop-at-test.true c.lexeme_at-found.ensures c.turn-next.result _ c.in_default.is c.turn-next.ensures
+pub returns-in_err-scan : goal.returns-in_err-scan
+returns-in_err-scan c =
+    let a = c.args in
+    let p = err_from_is_err_and c.from_residual.result c.from_residual.ensures.1 in
+    rw (p.1, p.2) (sym c.in_err-scan.was ∙ sofar-fault a.s.now c.loop-at.at c.loop-at.scan c.lexeme_at-found.result c.loop-at.invariant (bytes_of a.s.now (λ i. (c.type_inv.s i).fits)) c.loop-at-test.true c.lexeme_at-found.ensures c.turn.result _ c.in_err-scan.was c.turn.ensures)
 
 pub overflow_add-at : goal.overflow_add-at
 overflow_add-at c = omega (arith, c.requires.1, found-there c.args.s.now c.loop-at.at _ c.loop-at-test.true c.lexeme_at-found.ensures)
@@ -41,7 +45,7 @@ pub loop-at-smaller : goal.loop-at-smaller
 loop-at-smaller c = let a = c.args in omega (arith, c.past_blanks-at.ensures, c.loop-at-test.true, found_some a.s.now c.loop-at.at _ c.loop-at-test.true c.lexeme_at-found.ensures, found-there a.s.now c.loop-at.at _ c.loop-at-test.true c.lexeme_at-found.ensures)
 
 pub loop-at-preserved : goal.loop-at-preserved
-loop-at-preserved c = let a = c.args in sofar-past _ _ _ _ (sofar-step a.s.now c.loop-at.at c.loop-at.scan c.lexeme_at-found.result c.loop-at.invariant (bytes_of a.s.now (λ i. (c.shared_slice_known-1.given i).fits)) c.loop-at-test.true c.lexeme_at-found.ensures _ (sym c.in-Scanned.is ∙ c.turn-next.ensures)) c.past_blanks-at.ensures
+loop-at-preserved c = let a = c.args in sofar-past _ _ _ _ (sofar-step a.s.now c.loop-at.at c.loop-at.scan c.lexeme_at-found.result c.loop-at.invariant (bytes_of a.s.now (λ i. (c.type_inv.s i).fits)) c.loop-at-test.true c.lexeme_at-found.ensures _ (sym c.in_ok-scan.was ∙ c.turn.ensures)) c.past_blanks-at.ensures
 
 pub returns : goal.returns
 returns c = sofar-end c.args.s.now c.loop-at.at c.loop-at.scan c.loop-at.invariant c.loop-at-test.false

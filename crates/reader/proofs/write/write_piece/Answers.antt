@@ -1,3 +1,4 @@
+use Rattle.std.proofs.Common.{inl, inr}
 use Rattle.tokens.specs.declared.lexeme.Kind.TheVariants as K
 use Rattle.reader.proofs.Pieces.{by_kind, by_bits, by_number, blank-gives, opening-gives, closing-gives, bits_gives, numeral-gives, string-gives, name-gives}
 use Rattle.reader.proofs.write.write_piece.Goals as goal
@@ -21,7 +22,15 @@ pub write_name-requires : goal.write_name-requires
 write_name-requires c = let a = c.args in by_kind a.scan a.kind a.content.now a.nodes.now a.text.now a.stack.now c.requires.1 K.Name c.in-Name.is
 
 pub returns-in-Blank : goal.returns-in-Blank
-returns-in-Blank c = let a = c.args in blank-gives a.scan a.kind a.content.now a.nodes.now a.text.now a.stack.now c.requires.1 c.in-Blank.is
+returns-in-Blank c =
+    let a = c.args in
+    elim c.in-Blank.is [
+      | inl q ↦ blank-gives a.scan a.kind a.content.now a.nodes.now a.text.now a.stack.now c.requires.1 q
+      | inr w ↦ elim w [
+        | inl q ↦ absurd (by_kind a.scan a.kind a.content.now a.nodes.now a.text.now a.stack.now c.requires.1 K.Stray q)
+        | inr q ↦ absurd (by_kind a.scan a.kind a.content.now a.nodes.now a.text.now a.stack.now c.requires.1 K.Unclosed q)
+      ]
+    ]
 
 pub returns-in-Opening : goal.returns-in-Opening
 returns-in-Opening c = let a = c.args in opening-gives a.scan a.kind a.content.now a.nodes.now a.text.now a.stack.now c.requires.1 _ _ _ c.in-Opening.is c.write_open.ensures
@@ -40,9 +49,3 @@ returns-in-Quoted c = let a = c.args in string-gives a.scan a.kind a.content.now
 
 pub returns-in-Name : goal.returns-in-Name
 returns-in-Name c = let a = c.args in name-gives a.scan a.kind a.content.now a.nodes.now a.text.now a.stack.now c.requires.1 _ _ _ c.in-Name.is c.write_name.ensures
-
-pub returns-in-Stray : goal.returns-in-Stray
-returns-in-Stray c = let a = c.args in absurd (by_kind a.scan a.kind a.content.now a.nodes.now a.text.now a.stack.now c.requires.1 K.Stray c.in-Stray.is)
-
-pub returns-in-Unclosed : goal.returns-in-Unclosed
-returns-in-Unclosed c = let a = c.args in absurd (by_kind a.scan a.kind a.content.now a.nodes.now a.text.now a.stack.now c.requires.1 K.Unclosed c.in-Unclosed.is)

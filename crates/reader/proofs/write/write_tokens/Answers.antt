@@ -28,7 +28,7 @@ pub slice_bounds-write_piece-end : goal.slice_bounds-write_piece-end
 slice_bounds-write_piece-end c = let a = c.args in omega (arith, found_within a.s.now c.loop-at.at _ c.loop-at-test.true c.lexeme_at-found.ensures, found-there a.s.now c.loop-at.at _ c.loop-at-test.true c.lexeme_at-found.ensures)
 
 pub write_piece-scan-requires : goal.write_piece-scan-requires
-write_piece-scan-requires c = let a = c.args in holds-fine a.s.now a.nodes.now a.text.now a.stack.now c.loop-at.scan c.loop-at.at c.loop-at.nodes c.loop-at.text c.loop-at.stack c.lexeme_at-found.result c.loop-at.invariant (bytes_of a.s.now (λ i. (c.shared_slice_known-1.given i).fits)) c.requires.1 c.loop-at-test.true c.lexeme_at-found.ensures
+write_piece-scan-requires c = let a = c.args in holds-fine a.s.now a.nodes.now a.text.now a.stack.now c.loop-at.scan c.loop-at.at c.loop-at.nodes c.loop-at.text c.loop-at.stack c.lexeme_at-found.result c.loop-at.invariant (bytes_of a.s.now (λ i. (c.type_inv.s i).fits)) c.requires.1 c.loop-at-test.true c.lexeme_at-found.ensures
 
 pub overflow_add-at : goal.overflow_add-at
 overflow_add-at c = let a = c.args in omega (arith, c.requires.1, found_within a.s.now c.loop-at.at _ c.loop-at-test.true c.lexeme_at-found.ensures, found-there a.s.now c.loop-at.at _ c.loop-at-test.true c.lexeme_at-found.ensures)
@@ -40,7 +40,7 @@ pub loop-at-smaller : goal.loop-at-smaller
 loop-at-smaller c = let a = c.args in omega (arith, c.past_blanks-at.ensures, c.loop-at-test.true, found_some a.s.now c.loop-at.at _ c.loop-at-test.true c.lexeme_at-found.ensures, found_within a.s.now c.loop-at.at _ c.loop-at-test.true c.lexeme_at-found.ensures, found-there a.s.now c.loop-at.at _ c.loop-at-test.true c.lexeme_at-found.ensures)
 
 pub loop-at-preserved : goal.loop-at-preserved
-loop-at-preserved c = let a = c.args in holds-past _ _ _ _ _ _ _ _ _ _ (holds-again a.s.now a.nodes.now a.text.now a.stack.now c.loop-at.scan c.loop-at.at c.loop-at.nodes c.loop-at.text c.loop-at.stack c.lexeme_at-found.result c.loop-at.invariant (bytes_of a.s.now (λ i. (c.shared_slice_known-1.given i).fits)) c.requires.1 c.loop-at-test.true c.lexeme_at-found.ensures _ _ _ _ c.write_piece-scan.ensures) c.past_blanks-at.ensures
+loop-at-preserved c = let a = c.args in holds-past _ _ _ _ _ _ _ _ _ _ (holds-again a.s.now a.nodes.now a.text.now a.stack.now c.loop-at.scan c.loop-at.at c.loop-at.nodes c.loop-at.text c.loop-at.stack c.lexeme_at-found.result c.loop-at.invariant (bytes_of a.s.now (λ i. (c.type_inv.s i).fits)) c.requires.1 c.loop-at-test.true c.lexeme_at-found.ensures _ _ _ _ c.write_piece-scan.ensures) c.past_blanks-at.ensures
 
 pub returns : goal.returns
 returns c = let a = c.args in holds-end a.s.now a.nodes.now a.text.now a.stack.now c.loop-at.scan c.loop-at.at c.loop-at.nodes c.loop-at.text c.loop-at.stack c.loop-at.invariant c.loop-at-test.false

@@ -1,8 +1,8 @@
 use Rattle.reply.proofs.Given.{prints-listing, prints-refusal}
 use Rattle.reply.proofs.show.print_reply.Goals as goal
 
-pub returns-in-Length : goal.returns-in-Length
-returns-in-Length c = prints-listing c.list_reply-answer.ensures c.in-Length.is
+pub returns-in-Ok : goal.returns-in-Ok
+returns-in-Ok c = prints-listing c.list_reply-answer.ensures c.in-Ok.is
 
-pub returns-in-Refused : goal.returns-in-Refused
-returns-in-Refused c = prints-refusal c.list_reply-answer.ensures c.in-Refused.is c.put_refusal.ensures
+pub returns-in-Err : goal.returns-in-Err
+returns-in-Err c = prints-refusal c.list_reply-answer.ensures c.in-Err.is c.put_refusal.ensures

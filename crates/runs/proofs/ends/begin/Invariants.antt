@@ -1,8 +1,5 @@
 use Rattle.runs.proofs.Pieces.{Seeking}
 use Rattle.runs.proofs.ends.begin.Given as goal
 
-abbrev pub invariant-loop-p : goal.invariant-loop-p
-invariant-loop-p l = Seeking l.s l.from l.at l.p
-
-abbrev pub decreases-loop-p : goal.decreases-loop-p
-decreases-loop-p l = l.p
+abbrev pub invariant-loop-i : goal.invariant-loop-i
+invariant-loop-i l = Seeking l.s l.from l.at l.i

@@ -1,11 +1,8 @@
-use Rattle.runs.proofs.Listings.{listing_start, listing-fits, listing-falls, listing-next, listing_full, listing-end}
+use Rattle.runs.proofs.Listings.{listing_start, listing-fits, listing-falls, listing-next, listing-end}
 use Rattle.runs.proofs.index.list.Goals as goal
 
 pub loop-p-init : goal.loop-p-init
 loop-p-init c = search (listing_start)
-
-pub returns-then-n-ge-PLACES : goal.returns-then-n-ge-PLACES
-returns-then-n-ge-PLACES c = search (listing_full)
 
 pub settle-n-requires : goal.settle-n-requires
 settle-n-requires c = listing-fits _ _ _ _ _ _ c.loop-p.invariant c.loop-p-test.true c.if-n-ge-PLACES.false

@@ -1,4 +1,4 @@
-use Rattle.runs.proofs.Listings.{writing_start, writing-room, writing-next, writing-full, writing-end}
+use Rattle.runs.proofs.Listings.{writing_start, writing-room, writing-next, writing-end}
 use Rattle.runs.proofs.index.write.Goals as goal
 
 pub loop-i-init : goal.loop-i-init
@@ -6,12 +6,6 @@ loop-i-init c = search (writing_start)
 
 pub place-p-requires : goal.place-p-requires
 place-p-requires c = search (writing-room)
-
-pub returns-then-s-p : goal.returns-then-s-p
-returns-then-s-p c = writing-full _ _ _ _ _ _ c.loop-i.invariant
-
-pub returns-then-out-w : goal.returns-then-out-w
-returns-then-out-w c = writing-full _ _ _ _ _ _ c.loop-i.invariant
 
 pub loop-i-preserved : goal.loop-i-preserved
 loop-i-preserved c = writing-next _ _ _ _ _ _ _ _ _ c.loop-i.invariant c.loop-i-test.true c.place-p.ensures.same c.if-s-p.false c.if-out-w.false c.lay-w.auto.s c.lay-w.ensures

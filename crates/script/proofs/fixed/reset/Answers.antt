@@ -1,7 +1,11 @@
+use Rattle.ground.specs.Lists.{any}
 use Rattle.refusals.specs.declared.Refusal.TheVariants.{OutRoom}
 use Rattle.lent.proofs.Lefts.{leaves_as}
+use Rattle.parts.specs.Limit.{too_long}
+use Rattle.script.specs.Script.{scripted}
 use Rattle.script.proofs.Lines.{reset-line}
 use Rattle.script.proofs.fixed.reset.Goals as goal
 
 pub returns : goal.returns
-returns c = leaves_as OutRoom _ reset-line c.write_line.ensures
+unfolding scripted too_long any
+returns c = leaves_as OutRoom _ reset-line c.write_all.ensures

@@ -1,16 +1,11 @@
-use native.Mathlib.Omega.{arith}
 use Rattle.shapes.proofs.Sorts.{sort-word, sort-atom, sort-parts}
-use Rattle.shapes.proofs.Seen.{list-within}
 use Rattle.shapes.proofs.sort.sort_shape_at.Goals as goal
 
-pub returns-in_default : goal.returns-in_default
-returns-in_default c = let a = c.args in sort-atom a.nodes.now a.text.now a.at _ c.symbol_at-word.ensures c.in-NoSymbol.is _ c.list_at-list.ensures c.in_default.is
+pub returns-in-Some : goal.returns-in-Some
+returns-in-Some c = sort-word _ _ _ _ c.symbol_at.ensures _ _ c.in-Some.is
 
-pub overflow_add-at : goal.overflow_add-at
-overflow_add-at c = let a = c.args in record { fits = omega (arith, list-within a.nodes.now a.at _ c.list_at-list.ensures _ c.in-Children.is) }
+pub returns-in_default-list_at : goal.returns-in_default-list_at
+returns-in_default-list_at c = sort-atom _ _ _ _ c.symbol_at.ensures c.in_default.is _ c.list_at.ensures c.in_default-list_at.is
 
-pub returns-in-Symbol : goal.returns-in-Symbol
-returns-in-Symbol c = let a = c.args in sort-word a.nodes.now a.text.now a.at _ c.symbol_at-word.ensures _ _ c.in-Symbol.is
-
-pub returns-in-Children : goal.returns-in-Children
-returns-in-Children c = let a = c.args in sort-parts a.nodes.now a.text.now a.at _ c.symbol_at-word.ensures c.in-NoSymbol.is _ c.list_at-list.ensures _ c.in-Children.is c.sort_list.result c.sort_list.ensures
+pub returns : goal.returns
+returns c = sort-parts _ _ _ _ c.symbol_at.ensures c.in_default.is _ c.list_at.ensures _ c.in-Some-list_at.is c.sort_list.result c.sort_list.ensures

@@ -1,27 +1,40 @@
+use Rattle.std.proofs.lemmas.Result.{err_from_is_err_and}
 use Rattle.tables.specs.Sort.{option_of, set_of}
 use Rattle.sorts.proofs.Read.{sort_nested, sort-word, sort-width, sort-unknown, makes_option, makes_set, inner-refused, inner-row}
 use Rattle.sorts.proofs.sort.+read_sort.Goals as goal
 
 pub returns-then-allow-eq0 : goal.returns-then-allow-eq0
-returns-then-allow-eq0 t c = let a = c.args in sort_nested a.sorts.now a.names.now a.nodes.now a.text.now a.at a.allow c.if-allow-eq0.true
+returns-then-allow-eq0 t c = sort_nested _ _ _ _ _ _ c.if-allow-eq0.true
 
 pub returns-in-Word : goal.returns-in-Word
-returns-in-Word t c = let a = c.args in sort-word a.sorts.now a.names.now a.nodes.now a.text.now a.at a.allow c.if-allow-eq0.false c.sort_shape_at-shape.result c.sort_shape_at-shape.ensures _ _ c.in-Word.is c.word_at.result c.word_at.ensures
+returns-in-Word t c = sort-word _ _ _ _ _ _ c.if-allow-eq0.false _ c.sort_shape_at.ensures _ _ c.in-Word.is _ c.word_at.ensures
 
 pub returns-in-Width : goal.returns-in-Width
-returns-in-Width t c = let a = c.args in sort-width a.sorts.now a.names.now a.nodes.now a.text.now a.at a.allow c.if-allow-eq0.false c.sort_shape_at-shape.result c.sort_shape_at-shape.ensures _ _ c.in-Width.is c.sort_width.result c.sort_width.ensures
+returns-in-Width t c = sort-width _ _ _ _ _ _ c.if-allow-eq0.false _ c.sort_shape_at.ensures _ _ c.in-Width.is _ c.sort_width.ensures
 
-pub returns-in-Row : goal.returns-in-Row
-returns-in-Row t c = let a = c.args in inner-row a.sorts.now a.names.now a.nodes.now a.text.now a.at a.allow c.if-allow-eq0.false c.sort_shape_at-shape.result c.sort_shape_at-shape.ensures option_of _ (makes_option a.sorts.now a.names.now a.nodes.now a.text.now a.at a.allow c.if-allow-eq0.false c.sort_shape_at-shape.result c.sort_shape_at-shape.ensures _ c.in-OptionOf.is) _ c.read_sort-below.ensures _ c.in-Row.is c.row_of.result c.row_of.ensures
+pub returns-in_ok-row-in-OptionOf : goal.returns-in_ok-row-in-OptionOf
+returns-in_ok-row-in-OptionOf t c =
+    inner-row _ _ _ _ _ _ c.if-allow-eq0.false _ c.sort_shape_at.ensures option_of _
+    (makes_option c.args.sorts.now c.args.names.now _ _ _ _ c.if-allow-eq0.false _ c.sort_shape_at.ensures _ c.in-OptionOf.is) _ c.read_sort.ensures _ c.in_ok-row-in-OptionOf.was _ c.row_of.ensures
 
-pub returns-in-Refused : goal.returns-in-Refused
-returns-in-Refused t c = let a = c.args in inner-refused a.sorts.now a.names.now a.nodes.now a.text.now a.at a.allow c.if-allow-eq0.false c.sort_shape_at-shape.result c.sort_shape_at-shape.ensures option_of _ (makes_option a.sorts.now a.names.now a.nodes.now a.text.now a.at a.allow c.if-allow-eq0.false c.sort_shape_at-shape.result c.sort_shape_at-shape.ensures _ c.in-OptionOf.is) _ c.read_sort-below.ensures _ c.in-Refused.is
+pub returns-in_err-row-in-OptionOf : goal.returns-in_err-row-in-OptionOf
+returns-in_err-row-in-OptionOf t c =
+    let p = err_from_is_err_and c.from_residual.result c.from_residual.ensures.1 in
+    rw (p.1, p.2)
+    (inner-refused _ _ _ _ _ _ c.if-allow-eq0.false _ c.sort_shape_at.ensures option_of _
+    (makes_option c.args.sorts.now c.args.names.now _ _ _ _ c.if-allow-eq0.false _ c.sort_shape_at.ensures _ c.in-OptionOf.is) _ c.read_sort.ensures _ c.in_err-row-in-OptionOf.was)
 
-pub returns-in-Row-below : goal.returns-in-Row-below
-returns-in-Row-below t c = let a = c.args in inner-row a.sorts.now a.names.now a.nodes.now a.text.now a.at a.allow c.if-allow-eq0.false c.sort_shape_at-shape.result c.sort_shape_at-shape.ensures set_of _ (makes_set a.sorts.now a.names.now a.nodes.now a.text.now a.at a.allow c.if-allow-eq0.false c.sort_shape_at-shape.result c.sort_shape_at-shape.ensures _ c.in-SetOf.is) _ c.read_sort-below-in-SetOf.ensures _ c.in-Row-below.is c.row_of-in-Row-below.result c.row_of-in-Row-below.ensures
+pub returns-in_ok-row-in-SetOf : goal.returns-in_ok-row-in-SetOf
+returns-in_ok-row-in-SetOf t c =
+    inner-row _ _ _ _ _ _ c.if-allow-eq0.false _ c.sort_shape_at.ensures set_of _
+    (makes_set c.args.sorts.now c.args.names.now _ _ _ _ c.if-allow-eq0.false _ c.sort_shape_at.ensures _ c.in-SetOf.is) _ c.read_sort-in-SetOf.ensures _ c.in_ok-row-in-SetOf.was _ c.row_of-in-SetOf.ensures
 
-pub returns-in-Refused-below : goal.returns-in-Refused-below
-returns-in-Refused-below t c = let a = c.args in inner-refused a.sorts.now a.names.now a.nodes.now a.text.now a.at a.allow c.if-allow-eq0.false c.sort_shape_at-shape.result c.sort_shape_at-shape.ensures set_of _ (makes_set a.sorts.now a.names.now a.nodes.now a.text.now a.at a.allow c.if-allow-eq0.false c.sort_shape_at-shape.result c.sort_shape_at-shape.ensures _ c.in-SetOf.is) _ c.read_sort-below-in-SetOf.ensures _ c.in-Refused-below.is
+pub returns-in_err-row-in-SetOf : goal.returns-in_err-row-in-SetOf
+returns-in_err-row-in-SetOf t c =
+    let p = err_from_is_err_and c.from_residual-in_err-row-in-SetOf.result c.from_residual-in_err-row-in-SetOf.ensures.1 in
+    rw (p.1, p.2)
+    (inner-refused _ _ _ _ _ _ c.if-allow-eq0.false _ c.sort_shape_at.ensures set_of _
+    (makes_set c.args.sorts.now c.args.names.now _ _ _ _ c.if-allow-eq0.false _ c.sort_shape_at.ensures _ c.in-SetOf.is) _ c.read_sort-in-SetOf.ensures _ c.in_err-row-in-SetOf.was)
 
 pub returns-in-NoSort : goal.returns-in-NoSort
-returns-in-NoSort t c = let a = c.args in sort-unknown a.sorts.now a.names.now a.nodes.now a.text.now a.at a.allow c.if-allow-eq0.false c.sort_shape_at-shape.result c.sort_shape_at-shape.ensures c.in-NoSort.is
+returns-in-NoSort t c = sort-unknown _ _ _ _ _ _ c.if-allow-eq0.false _ c.sort_shape_at.ensures c.in-NoSort.is

@@ -1,15 +1,13 @@
 use native.Mathlib.Omega.{arith}
 use Rattle.sorts.proofs.Rows.{width-over, width-zero, width-row}
 use Rattle.sorts.proofs.sort.sort_width.Goals as goal
+use Rattle.sorts.proofs.sort.sort_width.Goals.{then-high-ne0-via-then-high-ne0, then-high-ne0-via-else-high-ne0+then-low-ge-WIDE}
 
 pub returns-then-high-ne0 : goal.returns-then-high-ne0
-returns-then-high-ne0 c = width-over c.args.sorts.now c.args.low c.args.high (omega arith)
-
-pub returns-then-low-ge-WIDE : goal.returns-then-low-ge-WIDE
-returns-then-low-ge-WIDE c = let a = c.args in width-over a.sorts.now a.low a.high (omega arith)
+returns-then-high-ne0 c = elim c.then-high-ne0.branch [ then-high-ne0-via-then-high-ne0 w ↦ width-over _ _ _ (omega arith) | then-high-ne0-via-else-high-ne0+then-low-ge-WIDE w ↦ width-over _ _ _ (omega arith) ]
 
 pub returns-then-low-eq0 : goal.returns-then-low-eq0
-returns-then-low-eq0 c = let a = c.args in width-zero a.sorts.now a.low a.high (omega arith) c.if-low-eq0.true
+returns-then-low-eq0 c = width-zero _ _ _ (omega arith) c.if-low-eq0.true
 
 pub returns : goal.returns
-returns c = let a = c.args in width-row a.sorts.now a.low a.high (omega arith) (omega arith) c.if-low-eq0.false c.row_of.result c.row_of.ensures
+returns c = width-row _ _ _ (omega arith) (omega arith) c.if-low-eq0.false c.row_of.result c.row_of.ensures

@@ -5,4 +5,4 @@ use Rattle.sorts.specs.Reads.{WordSort}
 use Rattle.sorts.proofs.sort.word_at.Goals as goal
 
 pub returns : goal.returns
-returns c = let a = c.args in subst (λ (s : List ℕ). WordSort a.sorts.now a.names.now s c.sort_word.result) (c.clamp-range.ensures.holds a.text.now refl) c.sort_word.ensures
+returns c = subst (λ (s : List ℕ). WordSort c.args.sorts.now c.args.names.now s c.sort_word.result) (c.clamp-range.ensures.holds _ refl) c.sort_word.ensures

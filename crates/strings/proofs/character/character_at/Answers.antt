@@ -1,24 +1,24 @@
-use native.Mathlib.Omega.{arith}
+use mathlib.Core.Path.{ap, ◌∙◌}
+use Rattle.strings.specs.Points.{one}
 use Rattle.strings.proofs.Characters.{character-plain, character_point, character-raw, character-last, character-two, character_lone}
 use Rattle.strings.proofs.character.character_at.Goals as goal
+use Rattle.strings.proofs.character.character_at.Goals.{else-byte-eq34-via-then-byte-eq34+then-at-s+else-s-at-eq34, else-byte-eq34-via-then-byte-eq34+else-at-s, else-byte-eq34-via-else-byte-eq34}
 
-pub returns-in_default : goal.returns-in_default
-returns-in_default c = let a = c.args in character-plain a.s.now a.at c.requires c.if-byte-eq92.true _ c.escape_at-found.ensures c.in_default.is
+pub returns-in-Some : goal.returns-in-Some
+returns-in-Some c = let a = c.args in character_point a.s.now a.at c.requires c.if-byte-eq92.true _ c.escape_at.ensures _ _ c.in-Some.is
 
-pub returns-then-byte-eq92 : goal.returns-then-byte-eq92
-returns-then-byte-eq92 c = let a = c.args in character_point a.s.now a.at c.requires c.if-byte-eq92.true _ c.escape_at-found.ensures _ _ c.in-Point.is
+pub returns-in-None : goal.returns-in-None
+returns-in-None c = let a = c.args in character-plain a.s.now a.at c.requires c.if-byte-eq92.true _ c.escape_at.ensures c.in-None.is
 
-pub overflow_cast-result : goal.overflow_cast-result
-overflow_cast-result c = record { fits = omega (arith, c.shared_slice_known-2-1.given c.args.at) }
+pub returns-then-s-at-eq34 : goal.returns-then-s-at-eq34
+returns-then-s-at-eq34 c = let a = c.args in character-two a.s.now a.at c.requires c.if-byte-eq92.false c.if-byte-eq34.true c.if-at-s.true c.if-s-at-eq34.true
 
-pub returns-then-byte-ne34 : goal.returns-then-byte-ne34
-returns-then-byte-ne34 c = let a = c.args in character-raw a.s.now a.at c.requires c.if-byte-eq92.false c.if-byte-ne34.true
-
-pub returns-then-s-next-eq34 : goal.returns-then-s-next-eq34
-returns-then-s-next-eq34 c = let a = c.args in character-two a.s.now a.at c.requires c.if-byte-eq92.false c.if-byte-ne34.false c.if-next-s.true c.if-s-next-eq34.true
-
-pub returns-else-s-next-eq34 : goal.returns-else-s-next-eq34
-returns-else-s-next-eq34 c = let a = c.args in character_lone a.s.now a.at c.requires c.if-byte-eq92.false c.if-byte-ne34.false c.if-next-s.true c.if-s-next-eq34.false
-
-pub returns-else-next-s : goal.returns-else-next-s
-returns-else-next-s c = let a = c.args in character-last a.s.now a.at c.requires c.if-byte-eq92.false c.if-byte-ne34.false c.if-next-s.false
+pub returns : goal.returns
+returns c =
+    let a = c.args in
+    ap one c.from.ensures ∙
+    elim c.else-byte-eq34.branch [
+      | else-byte-eq34-via-then-byte-eq34+then-at-s+else-s-at-eq34 w ↦ ap one w.if-byte-eq34.true ∙ character_lone a.s.now a.at c.requires c.if-byte-eq92.false w.if-byte-eq34.true w.if-at-s.true w.if-s-at-eq34.false
+      | else-byte-eq34-via-then-byte-eq34+else-at-s w ↦ ap one w.if-byte-eq34.true ∙ character-last a.s.now a.at c.requires c.if-byte-eq92.false w.if-byte-eq34.true w.if-at-s.false
+      | else-byte-eq34-via-else-byte-eq34 w ↦ character-raw a.s.now a.at c.requires c.if-byte-eq92.false w.if-byte-eq34.false
+    ]

@@ -1,20 +1,25 @@
-use Rattle.strings.proofs.Fours.{fours_short, fours_first, fours_second, fours_third, fours_fourth, fours_all}
+use mathlib.Core.Path.{◌∙◌}
+use native.Mathlib.Omega.{arith}
+use Rattle.strings.proofs.Fours.{fours_short, fours_start, fours_other, fours_small, fours_step, fours_done}
 use Rattle.strings.proofs.escape.four_digits.Goals as goal
 
-pub returns-then-s-start-lt4 : goal.returns-then-s-start-lt4
-returns-then-s-start-lt4 c = fours_short c.args.s.now c.args.start c.if-s-start-lt4.true
+pub returns-in_err-four : goal.returns-in_err-four
+returns-in_err-four c = rw c.from_residual.ensures (let h = rw c.in_err-four.was at c.get.ensures.lookup in fours_short c.args.s.now c.args.start (omega (arith, h.0)))
 
-pub returns-then-first-ge16 : goal.returns-then-first-ge16
-returns-then-first-ge16 c = let a = c.args in fours_first a.s.now a.start _ _ _ _ c.if-s-start-lt4.false c.digit_worth-first.ensures c.digit_worth-second.ensures c.digit_worth-third.ensures c.digit_worth-fourth.ensures c.if-first-ge16.true
+pub loop-digit-init : goal.loop-digit-init
+loop-digit-init c = fours_start c.args.s.now _ c.args.start c.in_ok-four.ensures.lookup.0.2
 
-pub returns-then-second-ge16 : goal.returns-then-second-ge16
-returns-then-second-ge16 c = let a = c.args in fours_second a.s.now a.start _ _ _ _ c.if-s-start-lt4.false c.digit_worth-first.ensures c.digit_worth-second.ensures c.digit_worth-third.ensures c.digit_worth-fourth.ensures c.if-first-ge16.false c.if-second-ge16.true
+pub returns-then-worth-ge16 : goal.returns-then-worth-ge16
+returns-then-worth-ge16 c = fours_other _ _ _ _ c.loop-digit.invariant (omega (arith, c.in_ok-four.ensures.lookup.0.3)) (omega (arith, c.in_ok-four.ensures.lookup.0.3)) _ c.digit_worth-worth.ensures c.if-worth-ge16.true
 
-pub returns-then-third-ge16 : goal.returns-then-third-ge16
-returns-then-third-ge16 c = let a = c.args in fours_third a.s.now a.start _ _ _ _ c.if-s-start-lt4.false c.digit_worth-first.ensures c.digit_worth-second.ensures c.digit_worth-third.ensures c.digit_worth-fourth.ensures c.if-first-ge16.false c.if-second-ge16.false c.if-third-ge16.true
+pub overflow_mul-value : goal.overflow_mul-value
+overflow_mul-value c = record { fits = omega (arith, fours_small _ _ _ _ c.loop-digit.invariant (omega (arith, c.in_ok-four.ensures.lookup.0.3)) (omega (arith, c.in_ok-four.ensures.lookup.0.3)) _ c.digit_worth-worth.ensures) }
 
-pub returns-then-fourth-ge16 : goal.returns-then-fourth-ge16
-returns-then-fourth-ge16 c = let a = c.args in fours_fourth a.s.now a.start _ _ _ _ c.if-s-start-lt4.false c.digit_worth-first.ensures c.digit_worth-second.ensures c.digit_worth-third.ensures c.digit_worth-fourth.ensures c.if-first-ge16.false c.if-second-ge16.false c.if-third-ge16.false c.if-fourth-ge16.true
+pub overflow_add-value : goal.overflow_add-value
+overflow_add-value c = record { fits = omega (arith, fours_small _ _ _ _ c.loop-digit.invariant (omega (arith, c.in_ok-four.ensures.lookup.0.3)) (omega (arith, c.in_ok-four.ensures.lookup.0.3)) _ c.digit_worth-worth.ensures) }
+
+pub loop-digit-preserved : goal.loop-digit-preserved
+loop-digit-preserved c = fours_step _ _ _ _ c.loop-digit.invariant (omega (arith, c.in_ok-four.ensures.lookup.0.3)) (omega (arith, c.in_ok-four.ensures.lookup.0.3)) _ (c.from.ensures ∙ c.digit_worth-worth.ensures) (omega arith)
 
 pub returns : goal.returns
-returns c = let a = c.args in fours_all a.s.now a.start _ _ _ _ c.if-s-start-lt4.false c.digit_worth-first.ensures c.digit_worth-second.ensures c.digit_worth-third.ensures c.digit_worth-fourth.ensures c.if-first-ge16.false c.if-second-ge16.false c.if-third-ge16.false c.if-fourth-ge16.false
+returns c = fours_done _ _ _ _ c.loop-digit.invariant (omega (arith, c.in_ok-four.ensures.lookup.0.3)) (omega (arith, c.in_ok-four.ensures.lookup.0.3)) (omega (arith, c.in_ok-four.ensures.lookup.0.3))

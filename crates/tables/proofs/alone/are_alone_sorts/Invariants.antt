@@ -5,8 +5,5 @@ use Rattle.tables.specs.Right.{lent_sorts}
 use Rattle.tables.proofs.Marks.{Marked}
 use Rattle.tables.proofs.alone.are_alone_sorts.Given as goal
 
-abbrev pub invariant-loop-left : goal.invariant-loop-left
-invariant-loop-left l = Marked (λ k. identity (sort_at (lent_sorts l.sorts [] l.names) k)) (count l.sorts) l.marks l.left
-
-abbrev pub decreases-loop-left : goal.decreases-loop-left
-decreases-loop-left l = l.left
+abbrev pub invariant-loop-row : goal.invariant-loop-row
+invariant-loop-row l = Marked (λ k. identity (sort_at (lent_sorts l.sorts [] l.names) k)) (count l.sorts) l.marks l.row

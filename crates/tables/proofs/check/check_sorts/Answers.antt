@@ -1,20 +1,14 @@
-use Rattle.std.proofs.Common.{ap, not}
+use Rattle.std.proofs.Common.{rules}
 use Rattle.tables.specs.Right.{right_sort, alone_sort}
-use Rattle.tables.proofs.Answers.{and_no}
-use Rattle.tables.proofs.Tabled.{sofar-start, sofar-wrong, sofar-next, sofar-end}
+use Rattle.tables.proofs.Tabled.{table-fails, table-rest}
 use Rattle.tables.proofs.check.check_sorts.Goals as goal
 
-pub returns-then-not-is_table : goal.returns-then-not-is_table
-returns-then-not-is_table c = and_no _ _ _ c.is_table.ensures (ap not c.if-not-is_table.true)
+pub returns-then-rows_pass : goal.returns-then-rows_pass
+returns-then-rows_pass c =
+    let a = c.args in
+    table-rest a.sorts.now (right_sort a.sorts.now a.fields.now a.names.now) (alone_sort a.sorts.now a.names.now) _ (c.rows_pass.ensures (right_sort a.sorts.now a.fields.now a.names.now) (λ i r h p. search rules)) c.if-rows_pass.true _ c.are_alone_sorts.ensures
 
-pub loop-i-init : goal.loop-i-init
-loop-i-init c = let a = c.args in sofar-start a.sorts.now (right_sort a.sorts.now a.fields.now a.names.now) (alone_sort a.sorts.now a.names.now) _ _ c.is_table.ensures (ap not c.if-not-is_table.false) c.count-rows_there.ensures
-
-pub returns-then-not-is_sort : goal.returns-then-not-is_sort
-returns-then-not-is_sort c = sofar-wrong _ _ _ _ _ c.loop-i.invariant c.loop-i-test.true _ c.is_sort.ensures (ap not c.if-not-is_sort.true)
-
-pub loop-i-preserved : goal.loop-i-preserved
-loop-i-preserved c = sofar-next _ _ _ _ _ c.loop-i.invariant c.loop-i-test.true _ c.is_sort.ensures (ap not c.if-not-is_sort.false)
-
-pub returns : goal.returns
-returns c = sofar-end _ _ _ _ _ c.loop-i.invariant c.loop-i-test.false _ c.are_alone_sorts.ensures
+pub returns-else-rows_pass : goal.returns-else-rows_pass
+returns-else-rows_pass c =
+    let a = c.args in
+    table-fails a.sorts.now (right_sort a.sorts.now a.fields.now a.names.now) (alone_sort a.sorts.now a.names.now) _ (c.rows_pass.ensures (right_sort a.sorts.now a.fields.now a.names.now) (λ i r h p. search rules)) c.if-rows_pass.false

@@ -1,16 +1,12 @@
-use mathlib.Core.Path.{refl, sym, ◌∙◌}
-use native.Mathlib.Omega.{arith}
-use Rattle.tables.proofs.Rights.{below-no, below-yes, below_end}
+use Rattle.std.proofs.Common.{rules, ltb, tests}
+use Rattle.std.proofs.lemmas.Iterator.{YieldsList-from_slice}
+use Rattle.std.proofs.lemmas.Iterator.Search.{all_from_yields_List}
+use mathlib.Core.Path.{◌∙◌}
+use Rattle.tables.proofs.Rights.{all-list}
 use Rattle.tables.proofs.rules.are_below.Goals as goal
 
-pub loop-i-init : goal.loop-i-init
-loop-i-init c = (omega arith, refl)
-
-pub returns-then-row-fields : goal.returns-then-row-fields
-returns-then-row-fields c = let a = c.args in sym (c.loop-i.invariant.1 ∙ below-no a.fields.now a.row c.loop-i.i c.loop-i-test.true c.if-row-fields.true)
-
-pub loop-i-preserved : goal.loop-i-preserved
-loop-i-preserved c = let a = c.args in (omega arith, c.loop-i.invariant.1 ∙ below-yes a.fields.now a.row c.loop-i.i c.loop-i-test.true c.if-row-fields.false)
-
 pub returns : goal.returns
-returns c = let a = c.args in sym (c.loop-i.invariant.1 ∙ below_end a.fields.now a.row c.loop-i.i (omega arith))
+returns c =
+    let a = c.args in
+    all_from_yields_List (λ x. ltb x a.row) _ _ c.all.result c.all.ensures.ran (YieldsList-from_slice a.fields.now cc) (λ x b q k. search (rules, tests))
+    ∙ all-list (λ x. ltb x a.row) a.fields.now

@@ -11,17 +11,17 @@ returns-then-not-starts c = let a = c.args in function-unkeyed a.s.now (unkeyed 
 pub returns-then-s-end : goal.returns-then-s-end
 returns-then-s-end c = let a = c.args in function_uncut a.s.now (keyed _ (bytes "fun=") a.s.now c.starts.ensures (ap not c.if-not-starts.false)) _ c.end_at-end.ensures c.if-s-end.true
 
-pub returns-in_default : goal.returns-in_default
-returns-in_default c = let a = c.args in function-other a.s.now (keyed _ (bytes "fun=") a.s.now c.starts.ensures (ap not c.if-not-starts.false)) _ c.end_at-end.ensures c.if-s-end.false (sym c.in_default.is ∙ c.number_before-first.ensures)
+pub returns-in_err-first : goal.returns-in_err-first
+returns-in_err-first c = let a = c.args in rw c.from_residual.ensures (function-other a.s.now (keyed _ (bytes "fun=") a.s.now c.starts.ensures (ap not c.if-not-starts.false)) _ c.end_at-end.ensures c.if-s-end.false (sym c.in_err-first.was ∙ c.number_before.ensures))
 
 pub slice_bounds-number_in-count : goal.slice_bounds-number_in-count
-slice_bounds-number_in-count c = let a = c.args in omega (arith, function-within a.s.now (keyed _ (bytes "fun=") a.s.now c.starts.ensures (ap not c.if-not-starts.false)) _ c.end_at-end.ensures c.if-s-end.false _ _ (sym c.in-Is.is ∙ c.number_before-first.ensures))
+slice_bounds-number_in-count c = let a = c.args in omega (arith, function-within a.s.now (keyed _ (bytes "fun=") a.s.now c.starts.ensures (ap not c.if-not-starts.false)) _ c.end_at-end.ensures c.if-s-end.false _ _ (sym c.in_ok-first.was ∙ c.number_before.ensures))
 
 pub slice_bounds-number_in-start : goal.slice_bounds-number_in-start
-slice_bounds-number_in-start c = let a = c.args in omega (arith, function-within a.s.now (keyed _ (bytes "fun=") a.s.now c.starts.ensures (ap not c.if-not-starts.false)) _ c.end_at-end.ensures c.if-s-end.false _ _ (sym c.in-Is.is ∙ c.number_before-first.ensures))
+slice_bounds-number_in-start c = let a = c.args in omega (arith, function-within a.s.now (keyed _ (bytes "fun=") a.s.now c.starts.ensures (ap not c.if-not-starts.false)) _ c.end_at-end.ensures c.if-s-end.false _ _ (sym c.in_ok-first.was ∙ c.number_before.ensures))
 
-pub returns-in-Is-second : goal.returns-in-Is-second
-returns-in-Is-second c = let a = c.args in function-row a.s.now (keyed _ (bytes "fun=") a.s.now c.starts.ensures (ap not c.if-not-starts.false)) _ c.end_at-end.ensures c.if-s-end.false _ _ (sym c.in-Is.is ∙ c.number_before-first.ensures) _ c.number_in-second.ensures _ c.in-Is-second.is
+pub returns : goal.returns
+returns c = let a = c.args in function-row a.s.now (keyed _ (bytes "fun=") a.s.now c.starts.ensures (ap not c.if-not-starts.false)) _ c.end_at-end.ensures c.if-s-end.false _ _ (sym c.in_ok-first.was ∙ c.number_before.ensures) _ c.number_in.ensures _ c.in_ok-result.was
 
-pub returns-in-Other : goal.returns-in-Other
-returns-in-Other c = let a = c.args in function-unread a.s.now (keyed _ (bytes "fun=") a.s.now c.starts.ensures (ap not c.if-not-starts.false)) _ c.end_at-end.ensures c.if-s-end.false _ _ (sym c.in-Is.is ∙ c.number_before-first.ensures) _ c.number_in-second.ensures c.in-Other.is
+pub returns-in_err-result : goal.returns-in_err-result
+returns-in_err-result c = let a = c.args in rw c.from_residual-in_err-result.ensures (function-unread a.s.now (keyed _ (bytes "fun=") a.s.now c.starts.ensures (ap not c.if-not-starts.false)) _ c.end_at-end.ensures c.if-s-end.false _ _ (sym c.in_ok-first.was ∙ c.number_before.ensures) _ c.number_in.ensures c.in_err-result.was)

@@ -11,11 +11,11 @@ returns-then-not-starts c = let a = c.args in member-unkeyed a.s.now (unkeyed _ 
 pub returns-then-s-end : goal.returns-then-s-end
 returns-then-s-end c = let a = c.args in member_uncut a.s.now (keyed _ (bytes "enum=") a.s.now c.starts.ensures (ap not c.if-not-starts.false)) _ c.end_at-end.ensures c.if-s-end.true
 
-pub overflow_sub-result-in-Is : goal.overflow_sub-result-in-Is
-overflow_sub-result-in-Is c = let a = c.args in omega (arith, member-within a.s.now (keyed _ (bytes "enum=") a.s.now c.starts.ensures (ap not c.if-not-starts.false)) _ c.end_at-end.ensures c.if-s-end.false _ _ (sym c.in-Is.is ∙ c.number_before-first.ensures))
+pub overflow_sub-result-2 : goal.overflow_sub-result-2
+overflow_sub-result-2 c = let a = c.args in omega (arith, member-within a.s.now (keyed _ (bytes "enum=") a.s.now c.starts.ensures (ap not c.if-not-starts.false)) _ c.end_at-end.ensures c.if-s-end.false _ _ (sym c.in_ok-first.was ∙ c.number_before.ensures))
 
-pub returns-in-Is : goal.returns-in-Is
-returns-in-Is c = let a = c.args in member-row a.s.now (keyed _ (bytes "enum=") a.s.now c.starts.ensures (ap not c.if-not-starts.false)) _ c.end_at-end.ensures c.if-s-end.false _ _ (sym c.in-Is.is ∙ c.number_before-first.ensures)
+pub returns : goal.returns
+returns c = let a = c.args in member-row a.s.now (keyed _ (bytes "enum=") a.s.now c.starts.ensures (ap not c.if-not-starts.false)) _ c.end_at-end.ensures c.if-s-end.false _ _ (sym c.in_ok-first.was ∙ c.number_before.ensures)
 
-pub returns-in-Other : goal.returns-in-Other
-returns-in-Other c = let a = c.args in member-other a.s.now (keyed _ (bytes "enum=") a.s.now c.starts.ensures (ap not c.if-not-starts.false)) _ c.end_at-end.ensures c.if-s-end.false (sym c.in-Other.is ∙ c.number_before-first.ensures)
+pub returns-in_err-first : goal.returns-in_err-first
+returns-in_err-first c = let a = c.args in rw c.from_residual.ensures (member-other a.s.now (keyed _ (bytes "enum=") a.s.now c.starts.ensures (ap not c.if-not-starts.false)) _ c.end_at-end.ensures c.if-s-end.false (sym c.in_err-first.was ∙ c.number_before.ensures))

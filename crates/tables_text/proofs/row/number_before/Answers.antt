@@ -4,8 +4,8 @@ use Rattle.tables_text.proofs.row.number_before.Goals as goal
 pub returns-then-s-end : goal.returns-then-s-end
 returns-then-s-end c = before-none c.args.s.now _ _ c.requires c.end_at-end.ensures c.if-s-end.true
 
-pub returns-in-Is : goal.returns-in-Is
-returns-in-Is c = before-is c.args.s.now _ _ c.requires c.end_at-end.ensures c.if-s-end.false _ c.number_in-number.ensures _ c.in-Is.is
+pub returns : goal.returns
+returns c = before-is c.args.s.now _ _ c.requires c.end_at-end.ensures c.if-s-end.false _ c.number_in.ensures _ c.in_ok-number.was
 
-pub returns-in-Other : goal.returns-in-Other
-returns-in-Other c = before-other c.args.s.now _ _ c.requires c.end_at-end.ensures c.if-s-end.false _ c.number_in-number.ensures c.in-Other.is
+pub returns-in_err-number : goal.returns-in_err-number
+returns-in_err-number c = rw c.from_residual.ensures (before-other c.args.s.now _ _ c.requires c.end_at-end.ensures c.if-s-end.false _ c.number_in.ensures c.in_err-number.was)

@@ -9,8 +9,8 @@ returns-then-not-starts c = let a = c.args in variable-unkeyed a.s.now (unkeyed 
 pub returns-then-s-end : goal.returns-then-s-end
 returns-then-s-end c = let a = c.args in variable_uncut a.s.now (keyed _ (bytes "var=") a.s.now c.starts.ensures (ap not c.if-not-starts.false)) _ c.end_at-end.ensures c.if-s-end.true
 
-pub returns-in-Is : goal.returns-in-Is
-returns-in-Is c = let a = c.args in variable-row a.s.now (keyed _ (bytes "var=") a.s.now c.starts.ensures (ap not c.if-not-starts.false)) _ c.end_at-end.ensures c.if-s-end.false _ c.number_in-number.ensures _ c.in-Is.is
+pub returns : goal.returns
+returns c = let a = c.args in variable-row a.s.now (keyed _ (bytes "var=") a.s.now c.starts.ensures (ap not c.if-not-starts.false)) _ c.end_at-end.ensures c.if-s-end.false _ c.number_in.ensures _ c.in_ok-sort.was
 
-pub returns-in-Other : goal.returns-in-Other
-returns-in-Other c = let a = c.args in variable-other a.s.now (keyed _ (bytes "var=") a.s.now c.starts.ensures (ap not c.if-not-starts.false)) _ c.end_at-end.ensures c.if-s-end.false _ c.number_in-number.ensures c.in-Other.is
+pub returns-in_err-sort : goal.returns-in_err-sort
+returns-in_err-sort c = let a = c.args in rw c.from_residual.ensures (variable-other a.s.now (keyed _ (bytes "var=") a.s.now c.starts.ensures (ap not c.if-not-starts.false)) _ c.end_at-end.ensures c.if-s-end.false _ c.number_in.ensures c.in_err-sort.was)

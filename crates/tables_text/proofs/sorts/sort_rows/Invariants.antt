@@ -1,10 +1,5 @@
-use Prim.Native.Nat.{◌-◌}
-use Rattle.tables.specs.Rules.{row_limit}
 use Rattle.tables_text.proofs.SortWalks.{Sorting}
 use Rattle.tables_text.proofs.sorts.sort_rows.Given as goal
 
 abbrev pub invariant-loop-row : goal.invariant-loop-row
 invariant-loop-row l = Sorting l.text l.initial.table l.initial.fields l.at l.row l.count l.table l.fields
-
-abbrev pub decreases-loop-row : goal.decreases-loop-row
-decreases-loop-row l = row_limit - l.row

@@ -13,8 +13,8 @@ use Rattle.tables_text.proofs.walk.function_line.Goals as goal
 pub returns-then-text-end : goal.returns-then-text-end
 returns-then-text-end c = let a = c.args in lined-past function_in function_line function_words function-sound a.text.now _ _ c.requires.0 c.end_at-end.ensures _ a.table.now c.if-text-end.true
 
-pub returns-in_default : goal.returns-in_default
-returns-in_default c = let a = c.args in lined-other function_in function_line function_words function-sound a.text.now _ _ c.requires.0 c.end_at-end.ensures _ a.table.now c.if-text-end.false (told-no-function _ (sym c.in_default.is ∙ c.function_in-found.ensures))
+pub returns-in_err-name : goal.returns-in_err-name
+returns-in_err-name c = let a = c.args in rw c.from_residual.ensures (lined-other function_in function_line function_words function-sound a.text.now _ _ c.requires.0 c.end_at-end.ensures _ a.table.now c.if-text-end.false (told-no-function _ (sym c.in_err-name.was ∙ c.function_in.ensures)))
 
 pub returns : goal.returns
-returns c = let a = c.args in let t = row-function a.at _ _ _ _ (sym c.in-Row.is ∙ c.function_in-found.ensures) in lined-row function_in function_line function_words function-sound a.text.now _ _ c.requires.0 c.end_at-end.ensures _ a.table.now c.if-text-end.false t.0 t.1 _ (c.put_row.ensures ∙ ap (λ (w : List ℕ). sets a.table.now (a.row * stride) w) t.2)
+returns c = let a = c.args in let t = row-function a.at _ _ _ _ (sym c.in_ok-name.was ∙ c.function_in.ensures) in lined-row function_in function_line function_words function-sound a.text.now _ _ c.requires.0 c.end_at-end.ensures _ a.table.now c.if-text-end.false t.0 t.1 _ (c.put_row.ensures ∙ ap (λ (w : List ℕ). sets a.table.now (a.row * stride) w) t.2)

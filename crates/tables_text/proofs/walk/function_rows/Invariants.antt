@@ -1,5 +1,3 @@
-use Prim.Native.Nat.{◌-◌}
-use Rattle.tables.specs.Rules.{row_limit}
 use Rattle.tables_text.specs.Parse.{function_in}
 use Rattle.tables_text.specs.Line.{function_line}
 use Rattle.tables_text.specs.Words.{function_words}
@@ -9,6 +7,3 @@ use Rattle.tables_text.proofs.walk.function_rows.Given as goal
 
 abbrev pub invariant-loop-row : goal.invariant-loop-row
 invariant-loop-row l = Walking function_in function_line function_words function-sound l.text l.initial.table l.start l.at l.row l.table
-
-abbrev pub decreases-loop-row : goal.decreases-loop-row
-decreases-loop-row l = row_limit - l.row

@@ -13,11 +13,11 @@ use Rattle.tables_text.proofs.walk.member_line.Goals as goal
 pub returns-then-text-end : goal.returns-then-text-end
 returns-then-text-end c = let a = c.args in lined-past member_in member_line member_words member-sound a.text.now _ _ c.requires.0 c.end_at-end.ensures _ a.table.now c.if-text-end.true
 
-pub returns-in_default : goal.returns-in_default
-returns-in_default c = let a = c.args in lined-other member_in member_line member_words member-sound a.text.now _ _ c.requires.0 c.end_at-end.ensures _ a.table.now c.if-text-end.false (told-no-member _ (sym c.in_default.is ∙ c.member_in-found.ensures))
+pub returns-in_err-name : goal.returns-in_err-name
+returns-in_err-name c = let a = c.args in rw c.from_residual.ensures (lined-other member_in member_line member_words member-sound a.text.now _ _ c.requires.0 c.end_at-end.ensures _ a.table.now c.if-text-end.false (told-no-member _ (sym c.in_err-name.was ∙ c.member_in.ensures)))
 
 pub overflow_sub-end : goal.overflow_sub-end
-overflow_sub-end c = (row-member-at c.args.text.now _ _ c.requires.0 c.end_at-end.ensures _ _ _ (sym c.in-Row.is ∙ c.member_in-found.ensures)).3
+overflow_sub-end c = (row-member-at c.args.text.now _ _ c.requires.0 c.end_at-end.ensures _ _ _ (sym c.in_ok-name.was ∙ c.member_in.ensures)).3
 
 pub returns : goal.returns
-returns c = let a = c.args in let t = row-member-at a.text.now _ _ c.requires.0 c.end_at-end.ensures _ _ _ (sym c.in-Row.is ∙ c.member_in-found.ensures) in lined-row member_in member_line member_words member-sound a.text.now _ _ c.requires.0 c.end_at-end.ensures _ a.table.now c.if-text-end.false t.0 t.1 _ (c.put_row.ensures ∙ ap (λ (w : List ℕ). sets a.table.now (a.row * stride) w) t.2)
+returns c = let a = c.args in let t = row-member-at a.text.now _ _ c.requires.0 c.end_at-end.ensures _ _ _ (sym c.in_ok-name.was ∙ c.member_in.ensures) in lined-row member_in member_line member_words member-sound a.text.now _ _ c.requires.0 c.end_at-end.ensures _ a.table.now c.if-text-end.false t.0 t.1 _ (c.put_row.ensures ∙ ap (λ (w : List ℕ). sets a.table.now (a.row * stride) w) t.2)

@@ -1,5 +1,3 @@
-use Prim.Native.Nat.{◌-◌}
-use Rattle.tables.specs.Rules.{row_limit}
 use Rattle.tables_text.specs.Parse.{member_in}
 use Rattle.tables_text.specs.Line.{member_line}
 use Rattle.tables_text.specs.Words.{member_words}
@@ -9,6 +7,3 @@ use Rattle.tables_text.proofs.walk.member_rows.Given as goal
 
 abbrev pub invariant-loop-row : goal.invariant-loop-row
 invariant-loop-row l = Walking member_in member_line member_words member-sound l.text l.initial.table l.start l.at l.row l.table
-
-abbrev pub decreases-loop-row : goal.decreases-loop-row
-decreases-loop-row l = row_limit - l.row

@@ -13,8 +13,8 @@ use Rattle.tables_text.proofs.walk.variable_line.Goals as goal
 pub returns-then-text-end : goal.returns-then-text-end
 returns-then-text-end c = let a = c.args in lined-past variable_in variable_line variable_words variable-sound a.text.now _ _ c.requires.0 c.end_at-end.ensures _ a.table.now c.if-text-end.true
 
-pub returns-in_default : goal.returns-in_default
-returns-in_default c = let a = c.args in lined-other variable_in variable_line variable_words variable-sound a.text.now _ _ c.requires.0 c.end_at-end.ensures _ a.table.now c.if-text-end.false (told-no-variable _ (sym c.in_default.is ∙ c.variable_in-found.ensures))
+pub returns-in_err-name : goal.returns-in_err-name
+returns-in_err-name c = let a = c.args in rw c.from_residual.ensures (lined-other variable_in variable_line variable_words variable-sound a.text.now _ _ c.requires.0 c.end_at-end.ensures _ a.table.now c.if-text-end.false (told-no-variable _ (sym c.in_err-name.was ∙ c.variable_in.ensures)))
 
 pub returns : goal.returns
-returns c = let a = c.args in let t = row-variable a.at _ _ _ (sym c.in-Row.is ∙ c.variable_in-found.ensures) in lined-row variable_in variable_line variable_words variable-sound a.text.now _ _ c.requires.0 c.end_at-end.ensures _ a.table.now c.if-text-end.false t.0 t.1 _ (c.put_row.ensures ∙ ap (λ (w : List ℕ). sets a.table.now (a.row * stride) w) t.2)
+returns c = let a = c.args in let t = row-variable a.at _ _ _ (sym c.in_ok-name.was ∙ c.variable_in.ensures) in lined-row variable_in variable_line variable_words variable-sound a.text.now _ _ c.requires.0 c.end_at-end.ensures _ a.table.now c.if-text-end.false t.0 t.1 _ (c.put_row.ensures ∙ ap (λ (w : List ℕ). sets a.table.now (a.row * stride) w) t.2)

@@ -9,14 +9,14 @@ use Rattle.tables_text.proofs.walk.variable_rows.Goals as goal
 pub loop-row-init : goal.loop-row-init
 loop-row-init c = walking_start variable_in variable_line variable_words variable-sound c.args.text.now c.args.table.now _ c.requires.0
 
-pub variable_line-line-requires : goal.variable_line-line-requires
-variable_line-line-requires c = let a = c.args in (c.loop-row.invariant.within, walking_room variable_in variable_line variable_words variable-sound (λ at x. refl) a.text.now a.table.now _ _ _ _ c.loop-row.invariant c.requires.1 c.loop-row-test.true)
+pub variable_line-requires : goal.variable_line-requires
+variable_line-requires c = let a = c.args in (c.loop-row.invariant.within, walking_room variable_in variable_line variable_words variable-sound (λ at x. refl) a.text.now a.table.now _ _ _ _ c.loop-row.invariant c.requires.1 c.loop-row-test.true)
 
 pub returns-in_default : goal.returns-in_default
-returns-in_default c = let a = c.args in walking_stop variable_in variable_line variable_words variable-sound (λ at x. refl) a.text.now a.table.now _ _ _ _ c.loop-row.invariant c.requires.1 c.loop-row-test.true _ _ c.variable_line-line.ensures c.in_default.is
+returns-in_default c = let a = c.args in walking_stop variable_in variable_line variable_words variable-sound (λ at x. refl) a.text.now a.table.now _ _ _ _ c.loop-row.invariant c.requires.1 c.loop-row-test.true _ _ c.variable_line.ensures c.in_default.is
 
 pub loop-row-preserved : goal.loop-row-preserved
-loop-row-preserved c = let a = c.args in walking_step variable_in variable_line variable_words variable-sound (λ at x. refl) a.text.now a.table.now _ _ _ _ c.loop-row.invariant c.requires.1 c.loop-row-test.true _ _ c.variable_line-line.ensures _ c.in-Next.is
+loop-row-preserved c = let a = c.args in walking_step variable_in variable_line variable_words variable-sound (λ at x. refl) a.text.now a.table.now _ _ _ _ c.loop-row.invariant c.requires.1 c.loop-row-test.true _ _ c.variable_line.ensures _ c.in-Some.is
 
 pub returns : goal.returns
 returns c = let a = c.args in walking_full variable_in variable_line variable_words variable-sound (λ at x. refl) a.text.now a.table.now _ _ _ _ c.loop-row.invariant c.requires.1 c.loop-row-test.false

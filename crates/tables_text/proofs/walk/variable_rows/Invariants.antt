@@ -1,5 +1,3 @@
-use Prim.Native.Nat.{◌-◌}
-use Rattle.tables.specs.Rules.{row_limit}
 use Rattle.tables_text.specs.Parse.{variable_in}
 use Rattle.tables_text.specs.Line.{variable_line}
 use Rattle.tables_text.specs.Words.{variable_words}
@@ -9,6 +7,3 @@ use Rattle.tables_text.proofs.walk.variable_rows.Given as goal
 
 abbrev pub invariant-loop-row : goal.invariant-loop-row
 invariant-loop-row l = Walking variable_in variable_line variable_words variable-sound l.text l.initial.table l.start l.at l.row l.table
-
-abbrev pub decreases-loop-row : goal.decreases-loop-row
-decreases-loop-row l = row_limit - l.row

@@ -1,14 +1,5 @@
-use Rattle.tokens.proofs.Sizes.{size-bits, size_number, size-quoted, size-name, size-plain}
+use Rattle.tokens.proofs.Sizes.{size-bits, size_number, size-quoted, size-name}
 use Rattle.tokens.proofs.atom.atom_size.Goals as goal
-
-pub returns-in-Blank : goal.returns-in-Blank
-returns-in-Blank c = size-plain c.args.content.now c.in-Blank.is
-
-pub returns-in-Opening : goal.returns-in-Opening
-returns-in-Opening c = size-plain c.args.content.now c.in-Opening.is
-
-pub returns-in-Closing : goal.returns-in-Closing
-returns-in-Closing c = size-plain c.args.content.now c.in-Closing.is
 
 pub returns-in-Bits : goal.returns-in-Bits
 returns-in-Bits c = size-bits c.args.content.now _ c.number_size.ensures c.in-Bits.is
@@ -21,9 +12,3 @@ returns-in-Quoted c = size-quoted c.args.content.now c.string_size.ensures c.in-
 
 pub returns-in-Name : goal.returns-in-Name
 returns-in-Name c = size-name c.args.content.now c.name_size.ensures c.in-Name.is
-
-pub returns-in-Stray : goal.returns-in-Stray
-returns-in-Stray c = size-plain c.args.content.now c.in-Stray.is
-
-pub returns-in-Unclosed : goal.returns-in-Unclosed
-returns-in-Unclosed c = size-plain c.args.content.now c.in-Unclosed.is

@@ -1,14 +1,16 @@
-use Rattle.value_text.proofs.Leaves.{rest-past, rest-short, rest-text}
+use native.Mathlib.Omega.{arith}
+use Rattle.value_text.proofs.Leaves.{rest-past, rest-within, rest-text, rest-full}
 use Rattle.decimals.specs.Decimal.{decimal}
-use Rattle.decimals.proofs.Texts.{length-decimal}
-use mathlib.Core.Path.{sym, ◌∙◌}
 use Rattle.value_text.proofs.leaf.write_number.Goals as goal
 
 pub returns-then-out-at : goal.returns-then-out-at
 returns-then-out-at c = rest-past (decimal c.args.number) _ _ c.if-out-at.true
 
-pub returns-then-out-at-2 : goal.returns-then-out-at-2
-returns-then-out-at-2 c = let a = c.args in rest-short (decimal a.number) _ _ _ (c.digit_count-need.ensures ∙ sym (length-decimal a.number)) c.if-out-at.false c.if-out-at-2.true
+pub overflow_add-result : goal.overflow_add-result
+overflow_add-result c = record { fits = omega (arith, rest-within (decimal c.args.number) _ _ c.if-out-at.false _ _ c.write_natural.ensures _ c.in-Ok.is) }
 
-pub returns : goal.returns
-returns c = let a = c.args in rest-text (decimal a.number) _ _ _ (c.digit_count-need.ensures ∙ sym (length-decimal a.number)) c.if-out-at.false c.if-out-at-2.false _ _ c.write_natural.ensures
+pub returns-in-Ok : goal.returns-in-Ok
+returns-in-Ok c = rest-text (decimal c.args.number) _ _ c.if-out-at.false _ _ c.write_natural.ensures _ c.in-Ok.is
+
+pub returns-in-Err : goal.returns-in-Err
+returns-in-Err c = rest-full (decimal c.args.number) _ _ c.if-out-at.false _ _ c.write_natural.ensures _ c.in-Err.is

@@ -1,4 +1,4 @@
-use Prim.Native.Nat.{◌*◌, ◌+◌, ◌-◌, ◌≤◌}
+use Prim.Native.Nat.{◌*◌, ◌+◌, ◌≤◌}
 use lib.ListN.{length}
 use mathlib.Core.Path.{◌≡◌}
 use Rattle.value_text.proofs.Fields.{LeftAt}
@@ -18,6 +18,3 @@ decreases-write_value l = 6 * l.allow
 
 abbrev pub invariant-write_fields-loop-i : goal.invariant-write_fields-loop-i
 invariant-write_fields-loop-i l = (l.i ≤ l.count) × (length l.scratch ≡ length l.initial.scratch) × (length l.out ≡ length l.initial.out) × LeftAt l.sorts l.members l.names l.nodes l.text l.first l.count l.allow l.initial.out l.place l.out l.to l.at l.i
-
-abbrev pub decreases-write_fields-loop-i : goal.decreases-write_fields-loop-i
-decreases-write_fields-loop-i l = l.count - l.i

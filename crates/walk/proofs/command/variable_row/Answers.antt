@@ -5,4 +5,4 @@ use mathlib.Core.Path.{refl, subst}
 use Rattle.walk.proofs.command.variable_row.Goals as goal
 
 pub returns : goal.returns
-returns c = let a = c.args in subst (λ (s : List ℕ). FindsVariable a.variables.now a.names.now s c.find_variable.result) (c.clamp-range.ensures.holds a.text.now refl) c.find_variable.ensures
+returns c = subst (λ (s : List ℕ). FindsVariable c.args.variables.now c.args.names.now s c.find_variable.result) (c.clamp-range.ensures.holds _ refl) c.find_variable.ensures

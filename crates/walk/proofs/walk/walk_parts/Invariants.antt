@@ -1,11 +1,7 @@
 use mathlib.Core.Path.{◌≡◌}
 use lib.ListN.{length}
-use Prim.Native.Nat.{◌-◌, ◌≤◌}
 use Rattle.walk.proofs.Walks.{LeftAt}
 use Rattle.walk.proofs.walk.walk_parts.Given as goal
 
-abbrev pub invariant-loop-i : goal.invariant-loop-i
-invariant-loop-i l = (l.i ≤ l.count) × (length l.last ≡ length l.initial.last) × LeftAt l.form (record { sorts = l.sorts; fields = l.fields; variables = l.variables; functions = l.functions; members = l.members; names = l.names }) l.nodes l.text l.first l.count l.initial.last l.at l.i l.last
-
-abbrev pub decreases-loop-i : goal.decreases-loop-i
-decreases-loop-i l = l.count - l.i
+abbrev pub invariant-loop : goal.invariant-loop
+invariant-loop l = (length l.last ≡ length l.initial.last) × LeftAt l.form (record { sorts = l.sorts; fields = l.fields; variables = l.variables; functions = l.functions; members = l.members; names = l.names }) l.nodes l.text l.first l.count l.initial.last l.at l.counter l.last

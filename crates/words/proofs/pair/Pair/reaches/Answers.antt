@@ -1,4 +1,4 @@
-use Rattle.words.proofs.Powers.{reaches-none, reaches-high, reaches-over, reaches-low}
+use Rattle.words.proofs.Powers.{reaches-none, reaches-high, reaches-low}
 use Rattle.std.proofs.Common.{rules}
 use Rattle.words.proofs.pair.Pair.reaches.Goals as goal
 
@@ -8,8 +8,5 @@ returns-then-width-ge128 c = let a = c.args in reaches-none a.self.low a.self.hi
 pub returns-then-width-ge64 : goal.returns-then-width-ge64
 returns-then-width-ge64 c = let a = c.args in reaches-high a.self.low a.self.high a.width (search rules) c.if-width-ge64.true
 
-pub returns-then-self-gt0 : goal.returns-then-self-gt0
-returns-then-self-gt0 c = let a = c.args in reaches-over a.self.low a.self.high a.width (search rules) c.if-width-ge64.false c.if-self-gt0.true
-
-pub returns : goal.returns
-returns c = let a = c.args in reaches-low a.self.low a.self.high a.width (search rules) c.if-self-gt0.false
+pub returns-else-self-gt0 : goal.returns-else-self-gt0
+returns-else-self-gt0 c = let a = c.args in reaches-low a.self.low a.self.high a.width (search rules) c.if-self-gt0.false

@@ -1,8 +1,0 @@
-use mathlib.Core.Path.{refl}
-use Rattle.arena.proofs.text.alike.Goals as goal
-
-pub returns-then-all : goal.returns-then-all
-returns-then-all c = rw c.if-all.true refl
-
-pub returns-else-all : goal.returns-else-all
-returns-else-all c = rw c.if-all.false refl

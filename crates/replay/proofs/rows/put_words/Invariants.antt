@@ -1,0 +1,5 @@
+use Rattle.std.proofs.Common.{length, ◌≡◌, ◌≤◌}
+use Rattle.replay.proofs.rows.put_words.Given as goal
+
+abbrev pub invariant-loop-at : goal.invariant-loop-at
+invariant-loop-at l = (l.end ≤ length l.initial.line) × (length l.line ≡ length l.initial.line)

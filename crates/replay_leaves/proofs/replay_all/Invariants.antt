@@ -1,9 +1,0 @@
-use mathlib.Core.Path.{◌≡◌}
-use lib.ListN.{length}
-use Rattle.replay_leaves.proofs.replay_all.Given as goal
-
-abbrev pub invariant-loop-turns : goal.invariant-loop-turns
-invariant-loop-turns l = (length l.input ≡ length l.initial.input) × (length l.bytes ≡ length l.initial.bytes) × (length l.text ≡ length l.initial.text) × (length l.line ≡ length l.initial.line)
-
-abbrev pub decreases-loop-turns : goal.decreases-loop-turns
-decreases-loop-turns l = l.turns
