@@ -6,18 +6,11 @@ import re
 import subprocess
 import sys
 
+from forms import close
+
 
 def git(*words):
     return subprocess.run(["git", *words], capture_output=True, text=True, check=True).stdout
-
-
-def close(text, at, pair="{}"):
-    deep = 0
-    for i in range(at, len(text)):
-        deep += (text[i] == pair[0]) - (text[i] == pair[1])
-        if deep == 0:
-            return i + 1
-    return len(text)
 
 
 def flat(text):
