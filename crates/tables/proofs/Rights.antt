@@ -4,6 +4,7 @@ use mathlib.Core.Path.{◌≡◌, refl, sym, ap, ◌∙◌}
 use mathlib.Core.Bool.{Bool, true, false, not, ◌&&◌, and_assoc}
 use mathlib.Core.List.{List, [], ◌∷◌}
 use Rattle.std.specs.List.{list_all}
+use Rattle.std.proofs.Math.Bool.{and-false, and-true}
 use Prim.Native.Nat.{ℕ, ◌+◌, ◌-◌, ◌%◌, ◌≤◌, ◌<◌}
 use native.Mathlib.Omega.{arith}
 use lib.Dec.{leb, ltb, eqb}
@@ -17,7 +18,7 @@ use Rattle.tables.specs.Layout.{count, word, part, name_at, name_inside}
 use Rattle.tables.specs.Range.{Clamps}
 use Rattle.tables.specs.Kept.{kept}
 use Rattle.tables.specs.Rules.{name_right}
-use Rattle.tables.specs.Right.{right_name, right_own, entity_at, sized}
+use Rattle.tables.specs.Right.{right_name, right_own, right_variable, right_function, entity_at, sized}
 use Rattle.tables.proofs.Ranges.{length_clamped}
 
 -- so many entries from one on are all there
@@ -53,6 +54,20 @@ module _ (xs : List ℕ) (first size : ℕ) (r : Range) (h : Clamps first size (
 module _ (w n k : ℕ) (e : k ≡ w) (b : Bool) where
   pub there-no : n ≤ k → false ≡ (ltb w n && b)
   there-no h = rw (le-ltb w n (omega (arith, e)))
+
+-- so a variable or a function is not right whose sort is past the sort rows
+second-no : (a b : Bool) → false ≡ b → false ≡ (a && b)
+second-no a b e = sym (and-false a) ∙ ap (λ (t : Bool). a && t) e
+
+module _ (ws names : List ℕ) (n i : ℕ) where
+  pub variable-past : n ≤ word ws i 2 → false ≡ right_variable ws names n i
+  variable-past h = second-no _ _ (there-no (word ws i 2) n (word ws i 2) refl true h ∙ and-true (ltb (word ws i 2) n))
+
+  pub argument-past : n ≤ word ws i 2 → false ≡ right_function ws names n i
+  argument-past h = second-no _ _ (there-no (word ws i 2) n (word ws i 2) refl (ltb (word ws i 3) n) h)
+
+  pub result-past : n ≤ word ws i 3 → false ≡ right_function ws names n i
+  result-past h = second-no _ _ (second-no _ _ (there-no (word ws i 3) n (word ws i 3) refl true h ∙ and-true (ltb (word ws i 3) n)))
 
 module _ (sorts : List ℕ) (row n : ℕ) (e : n ≡ count sorts) where
   pub entity-past : n ≤ row → false ≡ entity_at sorts row
