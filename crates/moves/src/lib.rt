@@ -11,7 +11,9 @@ pub fn draw(s: &mut [u8], w: usize, j: usize, n: usize) -> usize
     ensures { Puts s.old s.new w (take n (drop j s.old)) result }
 {
     if w != j {
-        s.copy_within(j..j + n, w);
+        for i in 0..n {
+            s[w + i] = s[j + i];
+        }
     }
     w + n
 }

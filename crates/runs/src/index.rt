@@ -42,8 +42,12 @@ fn insert(index: &mut [u8], at: usize, n: usize, p: usize)
     requires { (at ≤ n) × (n < length (pairs index.old)) × (p < reach) }
     ensures { Inserted (pairs index.old) (pairs index.new) at n p }
 {
-    index.copy_within(2 * at..2 * n, 2 * at + 2);
-    set_place(index, at, p);
+    let mut carried = p;
+    for i in at..n + 1 {
+        let next = place(index, i);
+        set_place(index, i, carried);
+        carried = next;
+    }
 }
 
 // The place p put among the first n by its key; answers how many there are then.
