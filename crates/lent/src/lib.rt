@@ -7,6 +7,7 @@ ghost use Rattle.lent.specs.Put.{Fronts, Offers};
 use refusals::Refusal;
 
 // Bytes at the front of a buffer that has room for them; answers how many.
+// Stays: a loop and no `copy_from_slice`, with which the archive for C would need `memmove`, and short pieces would take a call of it.
 pub fn copy(bytes: &[u8], out: &mut [u8]) -> usize
     requires { length bytes.now ≤ length out.old }
     ensures { Fronts bytes.now out.old out.new result }

@@ -38,6 +38,7 @@ fn find(s: &[u8], index: &[u8], n: usize, p: usize) -> usize
 }
 
 // The place p put in at the number `at`: each place from there on is handed one further.
+// Stays: a loop and no `copy_within`, for the reason of lent::copy.
 fn insert(index: &mut [u8], at: usize, n: usize, p: usize)
     requires { (at ≤ n) × (n < length (pairs index.old)) × (p < reach) }
     ensures { Inserted (pairs index.old) (pairs index.new) at n p }
