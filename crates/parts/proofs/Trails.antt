@@ -3,7 +3,7 @@
 use mathlib.Core.Path.{◌≡◌, refl, sym, ap, ◌∙◌, subst}
 use mathlib.Core.Bool.{true}
 use mathlib.Core.List.{List, [], ◌∷◌, ◌++◌, append_assoc, append-nil}
-use Prim.Native.Nat.{ℕ, suc, ◌+◌, ◌-◌, ◌≤◌, ◌<◌}
+use Prim.Native.Nat.{ℕ, zero, suc, ◌+◌, ◌-◌, ◌≤◌, ◌<◌}
 use native.Mathlib.Numerals.{add-one}
 use native.Mathlib.Omega.{arith}
 use lib.ListN.{length, get_or, take, drop, drop_of_length-le}
@@ -98,6 +98,25 @@ module _ (separator string ends entry : List ℕ) (at : ℕ) where
     trailing_end past =
         listing_end separator entry at (parts string ends) d lead to
         (subst (λ (l : List (List ℕ)). Listing separator entry at (parts string ends) d lead to l) (parts-end from string ends i past) so.listing)
+
+-- what leads to the part with the number i: nothing to the first
+abbrev pub leading : List ℕ → ℕ → List ℕ
+leading separator zero = []
+leading separator (suc i) = separator
+
+pub leading-first : (separator : List ℕ) (i : ℕ) → i ≡ 0 → leading separator i ≡ []
+leading-first separator i e = ap (leading separator) e
+
+pub leading-later : (separator : List ℕ) (i : ℕ) → (i ≡ 0 → ⊥) → leading separator i ≡ separator
+leading-later separator zero h = absurd (h refl)
+leading-later separator (suc i) h = refl
+
+pub leading_step : (separator string ends entry : List ℕ) (at : ℕ) (d : List ℕ) (from to i : ℕ) → Trailing separator string ends entry at d (leading separator i) from to i → i < length ends
+    → (d' d'' : List ℕ) (behind to' : ℕ) → Offers d d' to (leading separator i) behind → Offers d' d'' behind (take (get_or ends i 0 - from) (drop from string)) to'
+    → Trailing separator string ends entry at d'' (leading separator (i + 1)) (get_or ends i 0) to' (i + 1)
+leading_step separator string ends entry at d from to i so less d' d'' behind to' p q =
+    subst (λ (lead : List ℕ). Trailing separator string ends entry at d'' lead (get_or ends i 0) to' (i + 1)) (sym (ap (leading separator) (add-one i)))
+    (trailing_step separator string ends entry at d (leading separator i) from to i so less d' d'' behind to' p q)
 
 -- a pair as it is written
 pub pair-pieces : (name sort : List ℕ) → bytes "(" ++ (name ++ (bytes " " ++ (sort ++ bytes ")"))) ≡ pair name sort

@@ -13,15 +13,15 @@ pub fn put_joined(separator: &[u8], string: &[u8], ends: &[u64], out: &mut [u8],
     requires { ends_right string.now ends.now ≡ true }
     ensures { Offers out.old out.new at (joined separator.now (parts string.now ends.now)) result }
 {
-    let mut lead: &[u8] = b"";
     let mut from = 0;
     let mut to = at;
-    for end in ends {
+    for (i, end) in ends.iter().enumerate() {
         let end = *end as usize;
-        let behind = put(lead, out, to);
-        to = put(&string[from..end], out, behind);
+        if i != 0 {
+            to = put(separator, out, to);
+        }
+        to = put(&string[from..end], out, to);
         from = end;
-        lead = separator;
     }
     to
 }
