@@ -8,8 +8,8 @@ import re
 import sys
 
 KIT = ["io", "bytes"]
-# Crates that reach into a value of a type which they do not name: `replay::number(..).low` is a field of words::Pair, the `why` of a
-# `Written::Refused(why)` a refusal.
+# Crates that reach into a value of a type which they do not name: `replay::number(..).low` is a field of words::Pair, the `why` of an
+# `Err(why)` a refusal.
 BY_TYPE = {"replay_lines": ["words"], "replay_trees": ["words"], "replay_listings": ["refusals"]}
 START, END = "<!-- drawn by tools/deps.py -->", "<!-- end of the picture -->"
 LINE = re.compile(r"^([a-z0-9_]+)(?: staticlib)?:([^#\n]*)(#.*)?$")

@@ -25,7 +25,7 @@ fits_neg : (k : ℕ) → k < 2 ^ 63 → SFits w64 (neg_ℤ (pos k))
 fits_neg zero h = record { sfits = h }
 fits_neg (suc k) h = record { sfits = omega arith }
 
--- the two steps of the code
+-- two steps, each within 64 bits; the size that they come to is the one that the library's unsigned_abs gives the code
 abbrev pub above : ℤ → ℤ
 above n = back n +ℤ pos 1
 

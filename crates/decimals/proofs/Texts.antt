@@ -20,7 +20,7 @@ use Rattle.lent.specs.Left.{onto, writing, Leaves}
 use Rattle.lent.proofs.Lefts.{leaves-text, leaves-short}
 use Rattle.decimals.specs.Decimal.{last_digits, digit_count, decimal, signed_decimal}
 use Rattle.decimals.proofs.Counts.{count_most}
-use Rattle.decimals.proofs.Magnitudes.{back}
+use Rattle.decimals.proofs.Magnitudes.{back, below, negative}
 use Rattle.decimals.proofs.Puts.{length_digits}
 
 pub length-decimal : (n : ℕ) → length (decimal n) ≡ digit_count n
@@ -60,13 +60,17 @@ module _ (n k : ℕ) (d : List ℕ) (is : k ≡ digit_count n) where
       let l = length-decimal n in
       leaves-text OutRoom (45 ∷ decimal n) d (k + 1) e (omega arith) (omega arith) (q ∙ negative-holds n k d is h)
 
--- the sign of a number, as the code tests it, and its text
-pub signed-negative : (z : ℤ) (m : ℕ) → SFits w64 z → lt_z (back z) (pos 0) ≡ true → m ≡ nat_abs (back z) → 45 ∷ decimal m ≡ signed_decimal z
+-- the sign of a number, as the code tests it, and its text: first by the two steps that stay within 64 bits
+pub steps-text : (z : ℤ) → SFits w64 z → lt_z (back z) (pos 0) ≡ true → 45 ∷ decimal (nat_abs (back (below z)) + 1) ≡ signed_decimal z
 unfolding signed_decimal
-signed-negative (pos k) m f e g =
+steps-text (pos k) f e =
     let q : lt_z (pos k) (pos 0) ≡ true = sym (ap (λ (z : ℤ). lt_z z (pos 0)) (to_z-of_z w64 (pos k) f)) ∙ e in
     absurd (omega (arith, ltb-true k 0 q))
-signed-negative (negsuc k) m f e g = ap (λ (x : ℕ). 45 ∷ decimal x) (g ∙ ap nat_abs (to_z-of_z w64 (negsuc k) f))
+steps-text (negsuc k) f e = ap (λ (x : ℕ). 45 ∷ decimal x) (negative (negsuc k) f e).one_more
+
+-- then by the size that the library gives, which is the one that the steps come to
+pub signed-negative : (z : ℤ) (m : ℕ) → SFits w64 z → lt_z (back z) (pos 0) ≡ true → m ≡ nat_abs (back z) → 45 ∷ decimal m ≡ signed_decimal z
+signed-negative z m f e g = ap (λ (x : ℕ). 45 ∷ decimal x) (g ∙ ap nat_abs (to_z-of_z w64 z f) ∙ sym (negative z f e).one_more) ∙ steps-text z f e
 
 pub signed-natural : (z : ℤ) (m : ℕ) → SFits w64 z → lt_z (back z) (pos 0) ≡ false → m ≡ nat_abs (back z) → decimal m ≡ signed_decimal z
 unfolding signed_decimal

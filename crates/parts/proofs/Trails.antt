@@ -3,7 +3,7 @@
 use mathlib.Core.Path.{◌≡◌, refl, sym, ap, ◌∙◌, subst}
 use mathlib.Core.Bool.{true}
 use mathlib.Core.List.{List, [], ◌∷◌, ◌++◌, append_assoc, append-nil}
-use Prim.Native.Nat.{ℕ, suc, ◌+◌, ◌-◌, ◌≤◌, ◌<◌}
+use Prim.Native.Nat.{ℕ, zero, suc, ◌+◌, ◌-◌, ◌≤◌, ◌<◌}
 use native.Mathlib.Numerals.{add-one}
 use native.Mathlib.Omega.{arith}
 use lib.ListN.{length, get_or, take, drop, drop_of_length-le}
@@ -11,7 +11,7 @@ use lib.Seq.{drop-cons, take_all}
 use Rattle.ground.specs.Bytes.{bytes}
 use Rattle.ground.specs.Lists.{joined}
 use Rattle.lent.specs.Put.{Offers}
-use Rattle.lent.proofs.Offers.{offers_then, Onwards, onwards-start, onwards-step, onwards-end}
+use Rattle.lent.proofs.Offers.{offers_then, offers_as, Onwards, onwards-start, onwards-step, onwards-end}
 use Rattle.parts.specs.Parts.{parts, parts_from, paired, trailed, rise}
 use Rattle.parts.specs.Texts.{pair}
 use Rattle.parts.proofs.Rises.{Rising, rises}
@@ -99,19 +99,47 @@ module _ (separator string ends entry : List ℕ) (at : ℕ) where
         listing_end separator entry at (parts string ends) d lead to
         (subst (λ (l : List (List ℕ)). Listing separator entry at (parts string ends) d lead to l) (parts-end from string ends i past) so.listing)
 
+-- what leads to the part with the number i: nothing to the first
+abbrev pub leading : List ℕ → ℕ → List ℕ
+leading separator zero = []
+leading separator (suc i) = separator
+
+pub leading-first : (separator : List ℕ) (i : ℕ) → i ≡ 0 → leading separator i ≡ []
+leading-first separator i e = ap (leading separator) e
+
+pub leading-later : (separator : List ℕ) (i : ℕ) → (i ≡ 0 → ⊥) → leading separator i ≡ separator
+leading-later separator zero h = absurd (h refl)
+leading-later separator (suc i) h = refl
+
+pub leading_step : (separator string ends entry : List ℕ) (at : ℕ) (d : List ℕ) (from to i : ℕ) → Trailing separator string ends entry at d (leading separator i) from to i → i < length ends
+    → (d' d'' : List ℕ) (behind to' : ℕ) → Offers d d' to (leading separator i) behind → Offers d' d'' behind (take (get_or ends i 0 - from) (drop from string)) to'
+    → Trailing separator string ends entry at d'' (leading separator (i + 1)) (get_or ends i 0) to' (i + 1)
+leading_step separator string ends entry at d from to i so less d' d'' behind to' p q =
+    subst (λ (lead : List ℕ). Trailing separator string ends entry at d'' lead (get_or ends i 0) to' (i + 1)) (sym (ap (leading separator) (add-one i)))
+    (trailing_step separator string ends entry at d (leading separator i) from to i so less d' d'' behind to' p q)
+
 -- a pair as it is written
 pub pair-pieces : (name sort : List ℕ) → bytes "(" ++ (name ++ (bytes " " ++ (sort ++ bytes ")"))) ≡ pair name sort
 unfolding joined
 pair-pieces name sort = ap (λ (l : List ℕ). bytes "(" ++ l) (sym (append_assoc name (bytes " " ++ sort) (bytes ")")))
 
--- the loop over pairs: two ends at a time, and one that is left over is of no pair
+-- the loop over pairs: two ends at a time, and one that is left over is of no pair; what leads to a pair ends with its bracket
 pub record Pairing (string ends entry : List ℕ) (at : ℕ) (d lead : List ℕ) (from to : ℕ) (rest : List ℕ) : Type 0 where
+  pub gap : List ℕ
+  pub opens : lead ≡ gap ++ bytes "("
   pub right : rise from (length string) rest ≡ true
-  pub listing : Listing (bytes " ") entry at (paired pair (parts string ends)) d lead to (paired pair (parts_from from string rest))
+  pub listing : Listing (bytes " ") entry at (paired pair (parts string ends)) d gap to (paired pair (parts_from from string rest))
+
+-- what leads to a pair and the rest of it, as what stands before the bracket and the pair
+pair-led : (gap lead name sort : List ℕ) → lead ≡ gap ++ bytes "(" → lead ++ (name ++ (bytes " " ++ (sort ++ bytes ")"))) ≡ gap ++ pair name sort
+pair-led gap lead name sort e =
+    ap (λ (l : List ℕ). l ++ (name ++ (bytes " " ++ (sort ++ bytes ")")))) e
+    ∙ append_assoc gap (bytes "(") (name ++ (bytes " " ++ (sort ++ bytes ")")))
+    ∙ ap (λ (l : List ℕ). gap ++ l) (pair-pieces name sort)
 
 module _ (string ends entry : List ℕ) (at : ℕ) where
-  pub pairing_start : rise 0 (length string) ends ≡ true → Pairing string ends entry at entry [] 0 at ends
-  pairing_start h = record { right = h; listing = listing_start (bytes " ") entry at (paired pair (parts string ends)) }
+  pub pairing_start : rise 0 (length string) ends ≡ true → Pairing string ends entry at entry (bytes "(") 0 at ends
+  pairing_start h = record { gap = []; opens = refl; right = h; listing = listing_start (bytes " ") entry at (paired pair (parts string ends)) }
 
   module _ (d lead : List ℕ) (from to : ℕ) where
     pub pairing_one : (rest : List ℕ) → 2 ≤ length rest → Pairing string ends entry at d lead from to rest → Rising from (length string) (get_or rest 0 0) (drop 1 rest)
@@ -124,8 +152,8 @@ module _ (string ends entry : List ℕ) (at : ℕ) where
     pairing_two (middle ∷ end ∷ others) two so = rises middle (length string) end others (rises from (length string) middle (end ∷ others) so.right).rest
 
     pub pairing_step : (rest : List ℕ) → 2 ≤ length rest → Pairing string ends entry at d lead from to rest → (d' : List ℕ) (to' : ℕ)
-        → Offers d d' to (lead ++ pair (take (get_or rest 0 0 - from) (drop from string)) (take (get_or rest 1 0 - get_or rest 0 0) (drop (get_or rest 0 0) string))) to'
-        → Pairing string ends entry at d' (bytes " ") (get_or rest 1 0) to' (take (length rest - 2) (drop 2 rest))
+        → Offers d d' to (lead ++ (take (get_or rest 0 0 - from) (drop from string) ++ (bytes " " ++ (take (get_or rest 1 0 - get_or rest 0 0) (drop (get_or rest 0 0) string) ++ bytes ")")))) to'
+        → Pairing string ends entry at d' (bytes " (") (get_or rest 1 0) to' (take (length rest - 2) (drop 2 rest))
     unfolding parts_from paired
     pairing_step [] two so d' to' p = absurd (omega arith)
     pairing_step (middle ∷ []) two so d' to' p = absurd (omega arith)
@@ -133,14 +161,17 @@ module _ (string ends entry : List ℕ) (at : ℕ) where
         let whole : take (length (middle ∷ end ∷ others) - 2) others ≡ others = take_all _ others (omega arith) in
         rw whole
         (record {
+          gap = bytes " ";
+          opens = refl;
           right = (pairing_two (middle ∷ end ∷ others) two so).rest;
           listing =
-              listing_step (bytes " ") entry at (paired pair (parts string ends)) d lead to (pair (take (middle - from) (drop from string)) (take (end - middle) (drop middle string)))
-              (paired pair (parts_from end string others)) so.listing d' to' p;
+              listing_step (bytes " ") entry at (paired pair (parts string ends)) d so.gap to (pair (take (middle - from) (drop from string)) (take (end - middle) (drop middle string)))
+              (paired pair (parts_from end string others)) so.listing d' to'
+              (offers_as (pair-led so.gap lead (take (middle - from) (drop from string)) (take (end - middle) (drop middle string)) so.opens) p);
         })
 
     pub pairing_end : (rest : List ℕ) → length rest < 2 → Pairing string ends entry at d lead from to rest → Offers entry d at (joined (bytes " ") (paired pair (parts string ends))) to
     unfolding parts_from paired
-    pairing_end [] few so = listing_end (bytes " ") entry at (paired pair (parts string ends)) d lead to so.listing
-    pairing_end (end ∷ []) few so = listing_end (bytes " ") entry at (paired pair (parts string ends)) d lead to so.listing
+    pairing_end [] few so = listing_end (bytes " ") entry at (paired pair (parts string ends)) d so.gap to so.listing
+    pairing_end (end ∷ []) few so = listing_end (bytes " ") entry at (paired pair (parts string ends)) d so.gap to so.listing
     pairing_end (middle ∷ end ∷ others) few so = absurd (omega arith)

@@ -13,29 +13,28 @@ pub fn put_joined(separator: &[u8], string: &[u8], ends: &[u64], out: &mut [u8],
     requires { ends_right string.now ends.now ≡ true }
     ensures { Offers out.old out.new at (joined separator.now (parts string.now ends.now)) result }
 {
-    let mut lead: &[u8] = b"";
     let mut from = 0;
     let mut to = at;
-    for end in ends {
+    for (i, end) in ends.iter().enumerate() {
         let end = *end as usize;
-        let behind = put(lead, out, to);
-        to = put(&string[from..end], out, behind);
+        if i != 0 {
+            to = put(separator, out, to);
+        }
+        to = put(&string[from..end], out, to);
         from = end;
-        lead = separator;
     }
     to
 }
 
-// What leads to it, then a name and a sort in brackets.
+// What leads to it, its bracket too, then a name and a sort with the bracket that closes them.
 fn put_pair(lead: &[u8], name: &[u8], sort: &[u8], out: &mut [u8], at: usize) -> usize
-    ensures { Offers out.old out.new at (lead.now ++ pair name.now sort.now) result }
+    ensures { Offers out.old out.new at (lead.now ++ (name.now ++ (bytes " " ++ (sort.now ++ bytes ")")))) result }
 {
     let one = put(lead, out, at);
-    let two = put(b"(", out, one);
-    let three = put(name, out, two);
-    let four = put(b" ", out, three);
-    let five = put(sort, out, four);
-    put(b")", out, five)
+    let two = put(name, out, one);
+    let three = put(b" ", out, two);
+    let four = put(sort, out, three);
+    put(b")", out, four)
 }
 
 // All pairs, a space between two; an end that is left over is of no pair.
@@ -44,7 +43,7 @@ pub fn put_pairs(string: &[u8], ends: &[u64], out: &mut [u8], at: usize) -> usiz
     requires { ends_right string.now ends.now ≡ true }
     ensures { Offers out.old out.new at (joined (bytes " ") (paired pair (parts string.now ends.now))) result }
 {
-    let mut lead: &[u8] = b"";
+    let mut lead: &[u8] = b"(";
     let mut from = 0;
     let mut to = at;
     let mut rest = ends;
@@ -53,7 +52,7 @@ pub fn put_pairs(string: &[u8], ends: &[u64], out: &mut [u8], at: usize) -> usiz
         let end = *end as usize;
         to = put_pair(lead, &string[from..middle], &string[middle..end], out, to);
         from = end;
-        lead = b" ";
+        lead = b" (";
         rest = others;
     }
     to

@@ -1,17 +1,16 @@
 -- A place put into an index by its key.
 -- Assumes nothing.
-use mathlib.Core.Path.{◌≡◌, ap, sym, ◌∙◌, subst}
+use mathlib.Core.Path.{◌≡◌, refl, ap, sym, ◌∙◌, subst}
 use mathlib.Core.Bool.{Bool, true, false}
-use mathlib.Core.List.{List, [], ◌∷◌, ◌++◌}
-use Prim.Native.Nat.{ℕ, suc, ◌+◌, ◌-◌, ◌*◌, ◌/◌, ◌≤◌, ◌<◌}
+use mathlib.Core.List.{List, [], ◌∷◌, ◌++◌, append_assoc}
+use Prim.Native.Nat.{ℕ, suc, ◌+◌, ◌-◌, ◌/◌, ◌≤◌, ◌<◌}
 use native.Mathlib.Omega.{arith}
-use native.Mathlib.Nat.{le_antisymm}
+use native.Mathlib.Nat.{add-zero, le_antisymm}
 use native.Mathlib.Numerals.{add-one}
-use lib.ListN.{length, get_or, take, drop, set, length-drop, length-append, take-append-drop, drop_of_length-le}
-use lib.Seq.{take-take, get_or-take, split_at, take-suc, drop-cons, take-add, drop_at, take-append-le, length-take-le, take-set-lt, set_split}
-use Rattle.std.specs.List.{copy_within}
-use Rattle.std.proofs.lemmas.List.Edits.{take-paste}
+use lib.ListN.{length, get_or, take, drop, set, length-set, take-append-drop, drop_of_length-le}
+use lib.Seq.{take-take, get_or-take, split_at, take-suc, drop-cons, take-add, take_at, drop_at, take-append-add, length-take-le, take-suc-set, drop-set-lt, take-set-lt, set_split, get_or-drop, drop-drop}
 use Rattle.ground.proofs.Tests.{by_test}
+use Rattle.ground.proofs.Lists.{at_place}
 use Rattle.order.specs.Order.{before}
 use Rattle.order.specs.Merge.{inserts}
 use Rattle.order.specs.Every.{Every, none, also, Ascends}
@@ -20,8 +19,7 @@ use Rattle.order.proofs.Everies.{every_map, every_append, every-head, ascends_ri
 use Rattle.order.proofs.Arranges.{first-before}
 use Rattle.order.proofs.Merges.{place-new, place-later, place-earlier}
 use Rattle.runs.specs.Piece.{key_at}
-use Rattle.runs.specs.Pair.{pairs}
-use Rattle.runs.proofs.Pairs.{pairs-take, pairs-drop, pairs-append, pairs-within}
+use Rattle.runs.specs.Pair.{reach}
 use Rattle.runs.specs.Index.{Found, Inserted, Settled}
 
 -- ---- in a list that ascends, what one element says of those before it and of those behind it
@@ -100,44 +98,75 @@ finding_end s index n p lo hi h l =
     let e : hi ≡ lo = le_antisymm l h.less in
     record { within = omega arith; low = h.low; high = λ r. subst (λ (k : ℕ). Every (λ q. before (key_at s q) (key_at s p) ≡ false) (drop k (take n index))) e (h.high r) }
 
--- ---- the places from a number on, handed one further
+-- ---- the loop of insert
 
-module _ (l l' : List ℕ) (at n : ℕ) (start : at ≤ n) (room : n < length (pairs l)) (moved : l' ≡ copy_within l (2 * at) (2 * n) (2 * at + 2)) where
-  wide : 2 * n + 1 < length l
-  wide = pairs-within l n room
+pub record Shifting (entry : List ℕ) (at n p : ℕ) (index : List ℕ) (i carried : ℕ) : Type 0 where
+  pub from : at ≤ i
+  pub start : at ≤ n
+  pub within : i ≤ n + 1
+  pub room : n < length entry
+  pub long : length index ≡ length entry
+  pub small : carried < reach
+  pub behind : drop i index ≡ drop i entry
+  pub same : take i index ++ (carried ∷ drop i entry) ≡ take at entry ++ (p ∷ drop at entry)
 
-  -- the first places then are those up to the number and those from it on
-  shifted : take (suc n) (pairs l') ≡ take (suc at) (pairs l) ++ take (n - at) (drop at (pairs l))
-  shifted =
-      let k : 2 * suc n ≡ 2 * at + 2 + (2 * n - 2 * at) = omega arith in
-      let t : 2 * at + 2 ≡ 2 * suc at = omega arith in
-      let m : 2 * n - 2 * at ≡ 2 * (n - at) = omega arith in
-      pairs-take (suc n) l'
-      ∙ ap (λ (j : ℕ). pairs (take j l')) k
-      ∙ ap (λ (x : List ℕ). pairs (take (2 * at + 2 + (2 * n - 2 * at)) x)) moved
-      ∙ ap pairs (take-paste l (2 * at + 2) (drop (2 * at) l) (2 * n - 2 * at) (omega (arith, wide)) (omega (arith, wide, length-drop (2 * at) l)))
-      ∙ pairs-append (suc at) (take (2 * at + 2) l) (take (2 * n - 2 * at) (drop (2 * at) l)) (length-take-le (2 * at + 2) l (omega (arith, wide)) ∙ t)
-      ∙ ap (λ (j : ℕ). pairs (take j l) ++ pairs (take (2 * n - 2 * at) (drop (2 * at) l))) t
-      ∙ ap (λ (j : ℕ). pairs (take (2 * suc at) l) ++ pairs (take j (drop (2 * at) l))) m
-      ∙ ap (λ (x : List ℕ). x ++ pairs (take (2 * (n - at)) (drop (2 * at) l))) (sym (pairs-take (suc at) l))
-      ∙ ap (λ (x : List ℕ). take (suc at) (pairs l) ++ x) (sym (pairs-take (n - at) (drop (2 * at) l)) ∙ ap (take (n - at)) (sym (pairs-drop at l)))
+pub shifting_start : (entry : List ℕ) (at n p : ℕ) → (at ≤ n) × (n < length entry) × (p < reach) → Shifting entry at n p entry at p
+shifting_start entry at n p h = record { from = omega arith; start = h.0; within = omega (arith, h.0); room = h.1; long = refl; small = h.2; behind = refl; same = refl }
 
-  pub inserted : (exit : List ℕ) (p : ℕ) → exit ≡ set (pairs l') at p → Inserted (pairs l) exit at n p
-  inserted exit p exit_is =
-      let P : List ℕ = pairs l in
-      let X : List ℕ = take (n - at) (drop at P) in
-      let la : length (take (suc at) P) ≡ suc at = length-take-le (suc at) P (omega arith) in
-      let m : n ≡ at + (n - at) = omega arith in
-      let back : drop at (take n P) ≡ X =
-      ap (λ (j : ℕ). drop at (take j P)) m ∙ ap (drop at) (take-add at (n - at) P) ∙ drop_at (take at P) X at (length-take-le at P (omega arith)) in
+module _ (entry : List ℕ) (at n p : ℕ) (index index' : List ℕ) (i carried next : ℕ) (h : Shifting entry at n p index i carried) (l : i ≤ n) (next-is : next ≡ get_or index i 0)
+    (less : next < reach) (index_is : index' ≡ set index i carried) where
+  behind-next : drop (i + 1) index' ≡ drop (i + 1) entry
+  behind-next = ap (drop (i + 1)) index_is ∙ drop-set-lt (i + 1) index i carried (omega arith) ∙ sym (drop-drop 1 i index) ∙ ap (drop 1) h.behind ∙ drop-drop 1 i entry
+
+  front-next : take (i + 1) index' ≡ take i index ++ (carried ∷ [])
+  front-next =
+      let r = h.room in
+      let z = h.long in
+      ap (take (i + 1)) index_is ∙ ap (λ (k : ℕ). take k (set index i carried)) (add-one i) ∙ take-suc-set index i carried (omega arith)
+
+  carried-next : next ≡ get_or entry i 0
+  carried-next =
+      next-is ∙ ap (λ (k : ℕ). get_or index k 0) (sym (add-zero i)) ∙ sym (get_or-drop i index 0 0) ∙ ap (λ (x : List ℕ). get_or x 0 0) h.behind ∙ get_or-drop i entry 0 0
+      ∙ ap (λ (k : ℕ). get_or entry k 0) (add-zero i)
+
+  pub shifting_next : Shifting entry at n p index' (i + 1) next
+  shifting_next =
+      let f = h.from in
+      let r = h.room in
+      let z = h.long in
       record {
-        holds =
-            ap (take (n + 1)) exit_is ∙ ap (λ (j : ℕ). take j (set (pairs l') at p)) (add-one n) ∙ take-set-lt (suc n) (pairs l') at p (omega arith)
-            ∙ ap (λ (x : List ℕ). set x at p) shifted
-            ∙ set_split (take (suc at) P ++ X) at p (omega (arith, length-append (take (suc at) P) X, la))
-            ∙ ap (λ (x : List ℕ). x ++ (p ∷ drop (suc at) (take (suc at) P ++ X))) (take-append-le at (take (suc at) P) X (omega (arith, la)) ∙ take-take at (suc at) P (omega arith))
-            ∙ ap (λ (x : List ℕ). take at P ++ (p ∷ x)) (drop_at (take (suc at) P) X (suc at) la ∙ sym back);
+        from = omega arith;
+        start = h.start;
+        within = omega arith;
+        room = r;
+        long = ap length index_is ∙ length-set index i carried ∙ z;
+        small = less;
+        behind = behind-next;
+        same =
+            ap (λ (x : List ℕ). x ++ (next ∷ drop (i + 1) entry)) front-next
+            ∙ append_assoc (take i index) (carried ∷ []) (next ∷ drop (i + 1) entry)
+            ∙ ap (λ (v : ℕ). take i index ++ (carried ∷ v ∷ drop (i + 1) entry)) carried-next
+            ∙ ap (λ (x : List ℕ). take i index ++ (carried ∷ x)) (sym (at_place entry i (omega arith)))
+            ∙ h.same;
       }
+
+pub shifting_end : (entry : List ℕ) (at n p : ℕ) (index : List ℕ) (i carried : ℕ) → Shifting entry at n p index i carried → n < i → Inserted entry index at n p
+shifting_end entry at n p index i carried h l =
+    let w = h.within in
+    let r = h.room in
+    let z = h.long in
+    let st = h.start in
+    let e : i ≡ n + 1 = omega arith in
+    let one : take (n + 1) (take i index ++ (carried ∷ drop i entry)) ≡ take (n + 1) index =
+    ap (λ (k : ℕ). take (n + 1) (take k index ++ (carried ∷ drop k entry))) e ∙ take_at (take (n + 1) index) (carried ∷ drop (n + 1) entry) (n + 1) (length-take-le (n + 1) index (omega arith)) in
+    let la : length (take at entry) ≡ at = length-take-le at entry (omega arith) in
+    let k : n + 1 ≡ length (take at entry) + suc (n - at) = omega arith in
+    let two : take (n + 1) (take at entry ++ (p ∷ drop at entry)) ≡ take at entry ++ (p ∷ take (n - at) (drop at entry)) =
+    ap (λ (j : ℕ). take j (take at entry ++ (p ∷ drop at entry))) k ∙ take-append-add (take at entry) (p ∷ drop at entry) (suc (n - at)) in
+    let m : n ≡ at + (n - at) = omega arith in
+    let three : drop at (take n entry) ≡ take (n - at) (drop at entry) =
+    ap (λ (j : ℕ). drop at (take j entry)) m ∙ ap (drop at) (take-add at (n - at) entry) ∙ drop_at (take at entry) (take (n - at) (drop at entry)) at la in
+    record { holds = sym one ∙ ap (take (n + 1)) h.same ∙ two ∙ ap (λ (x : List ℕ). take at entry ++ (p ∷ x)) (sym three) }
 
 -- ---- the returns of settle
 

@@ -1,10 +1,10 @@
 -- Places kept as pairs of bytes: how many there are, one read, one written, and those that stay where the bytes at the front stay.
 -- Assumes nothing.
 use mathlib.Core.Path.{◌≡◌, refl, ap, sym, ◌∙◌}
-use mathlib.Core.List.{List, [], ◌∷◌, ◌++◌}
+use mathlib.Core.List.{List, [], ◌∷◌}
 use Prim.Native.Nat.{ℕ, zero, suc, ◌+◌, ◌*◌, ◌/◌, ◌%◌, ◌<◌}
 use native.Mathlib.Omega.{arith}
-use lib.ListN.{length, get_or, take, drop, set}
+use lib.ListN.{length, get_or, take, set}
 use lib.Seq.{get_or-take, take-take}
 use Rattle.runs.specs.Pair.{pairs, Place}
 
@@ -49,28 +49,12 @@ pairs_set (a ∷ b ∷ l) (suc i) p h =
     ∙ ap (λ (x : List ℕ). (a + b * 256) ∷ x) (pairs_set l i p (omega arith))
 
 -- the first places are those of the first bytes
-pub pairs-take : (n : ℕ) (l : List ℕ) → take n (pairs l) ≡ pairs (take (2 * n) l)
+pairs-take : (n : ℕ) (l : List ℕ) → take n (pairs l) ≡ pairs (take (2 * n) l)
 unfolding pairs
 pairs-take zero l = refl
 pairs-take (suc n) [] = ap (λ (k : ℕ). pairs (take k [])) (sym (twice n))
 pairs-take (suc n) (a ∷ []) = ap (λ (k : ℕ). pairs (take k (a ∷ []))) (sym (twice n))
 pairs-take (suc n) (a ∷ b ∷ l) = ap (λ (x : List ℕ). (a + b * 256) ∷ x) (pairs-take n l) ∙ ap (λ (k : ℕ). pairs (take k (a ∷ b ∷ l))) (sym (twice n))
-
-pub pairs-drop : (n : ℕ) (l : List ℕ) → drop n (pairs l) ≡ pairs (drop (2 * n) l)
-unfolding pairs
-pairs-drop zero l = refl
-pairs-drop (suc n) [] = ap (λ (k : ℕ). pairs (drop k [])) (sym (twice n))
-pairs-drop (suc n) (a ∷ []) = ap (λ (k : ℕ). pairs (drop k (a ∷ []))) (sym (twice n))
-pairs-drop (suc n) (a ∷ b ∷ l) = pairs-drop n l ∙ ap (λ (k : ℕ). pairs (drop k (a ∷ b ∷ l))) (sym (twice n))
-
--- the places of two parts, the first of which has whole pairs
-pub pairs-append : (k : ℕ) (x y : List ℕ) → length x ≡ 2 * k → pairs (x ++ y) ≡ pairs x ++ pairs y
-unfolding pairs
-pairs-append zero [] y h = refl
-pairs-append zero (a ∷ x) y h = absurd (omega arith)
-pairs-append (suc k) [] y h = absurd (omega arith)
-pairs-append (suc k) (a ∷ []) y h = absurd (omega arith)
-pairs-append (suc k) (a ∷ b ∷ x) y h = ap (λ (z : List ℕ). (a + b * 256) ∷ z) (pairs-append k x y (omega arith))
 
 front_at : (l : List ℕ) (k i : ℕ) → 2 * i + 1 < k → get_or (pairs l) i 0 ≡ get_or (pairs (take (2 * suc i) (take k l))) i 0
 front_at l k i h = sym (get_or-take (suc i) (pairs l) i 0 (omega arith)) ∙ ap (λ (x : List ℕ). get_or x i 0) (pairs-take (suc i) l ∙ ap pairs (sym (take-take (2 * suc i) k l (omega arith))))

@@ -38,12 +38,17 @@ fn find(s: &[u8], index: &[u8], n: usize, p: usize) -> usize
 }
 
 // The place p put in at the number `at`: each place from there on is handed one further.
+// Stays: a loop and no `copy_within`, for the reason of lent::copy.
 fn insert(index: &mut [u8], at: usize, n: usize, p: usize)
     requires { (at ≤ n) × (n < length (pairs index.old)) × (p < reach) }
     ensures { Inserted (pairs index.old) (pairs index.new) at n p }
 {
-    index.copy_within(2 * at..2 * n, 2 * at + 2);
-    set_place(index, at, p);
+    let mut carried = p;
+    for i in at..n + 1 {
+        let next = place(index, i);
+        set_place(index, i, carried);
+        carried = next;
+    }
 }
 
 // The place p put among the first n by its key; answers how many there are then.

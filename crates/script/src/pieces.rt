@@ -11,13 +11,16 @@ use parts::exceeds;
 use refusals::Refusal;
 
 // Whether one of the inputs that have these sizes is too long.
+#[inline(always)]
 pub fn any_exceeds(sizes: &[usize]) -> bool
     ensures { result ≡ list_any (λ size. ltb input_limit size) sizes.now }
 {
     sizes.iter().any(|size| exceeds(*size, false))
 }
 
-// All pieces at a place, where there is room for them; answers the place after them.
+// All pieces at a place, where there is room for them; answers the place after them. A hint, here and below: a caller knows how many
+// pieces there are and what most of them say, and as a call of its own a short line took twice as long.
+#[inline(always)]
 pub fn put_all(pieces: &[&[u8]], out: &mut [u8], at: usize) -> usize
     ensures { Offers out.old out.new at (concat (map (λ piece. piece.now) pieces.now)) result }
 {
@@ -29,6 +32,7 @@ pub fn put_all(pieces: &[&[u8]], out: &mut [u8], at: usize) -> usize
 }
 
 // A line that is all pieces, some of them lent.
+#[inline(always)]
 pub fn write_all(pieces: &[&[u8]], out: &mut [u8]) -> Result<usize, Refusal>
     requires { length pieces.now ≤ 5 }
     ensures { Leaves (scripted (map (λ piece. piece.now) pieces.now) true (concat (map (λ piece. piece.now) pieces.now)) out.old) result out.new }

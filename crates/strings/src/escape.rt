@@ -4,14 +4,14 @@ ghost use Rattle.strings.specs.Escape.{braced, braced_escape, four_digits, escap
 
 use words::digit_worth;
 
-// Hexadecimal digits up to a closing brace: the number read and how many digits it has, or a failed mark.
+// Hexadecimal digits up to a closing brace: the number read and how many digits it has.
 #[derive(Clone, Copy)]
 pub struct Braced {
     pub value: u32,
     pub digits: usize,
 }
 
-// What follows a backslash: an escape's code point and how many bytes it takes, or nothing of the kind.
+// What follows a backslash, where it is an escape: its code point and how many bytes it takes.
 #[derive(Clone, Copy)]
 pub struct Escape {
     pub value: u32,

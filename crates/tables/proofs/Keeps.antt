@@ -1,19 +1,13 @@
--- Kept words, group by group; and a test that some element of a list passes, as std says it.
+-- Kept words, group by group.
 -- Assumes nothing.
 use mathlib.Core.Path.{◌≡◌, refl, sym, ap, ◌∙◌}
 use mathlib.Core.Bool.{Bool, true, false, ◌||◌}
 use mathlib.Core.List.{List, [], ◌∷◌, ◌++◌}
 use Prim.Native.Nat.{ℕ}
-use Rattle.std.specs.List.{list_any}
 use Rattle.ground.specs.Lists.{any}
 use Rattle.ground.proofs.Tests.{by_test}
 use Rattle.arena.specs.Text.{same_text}
 use Rattle.tables.specs.Kept.{core_words, literal_words, sort_words, kept_words, kept}
-
-pub any-list : {A : Type 0} (test : A → Bool) (xs : List A) → list_any test xs ≡ any test xs
-unfolding any
-any-list test [] = refl
-any-list test (x ∷ xs) = ap (λ (t : Bool). test x || t) (any-list test xs)
 
 any_append : (test : List ℕ → Bool) (a b : List (List ℕ)) → any test (a ++ b) ≡ (any test a || any test b)
 unfolding any

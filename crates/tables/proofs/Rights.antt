@@ -2,12 +2,13 @@
 -- Assumes nothing.
 use mathlib.Core.Path.{◌≡◌, refl, sym, ap, ◌∙◌}
 use mathlib.Core.Bool.{Bool, true, false, not, ◌&&◌, and_assoc}
-use mathlib.Core.List.{List, [], ◌∷◌}
-use Rattle.std.specs.List.{list_all}
+use mathlib.Core.List.{List}
+use Rattle.std.proofs.Math.Bool.{and-false, and-true}
 use Prim.Native.Nat.{ℕ, ◌+◌, ◌-◌, ◌%◌, ◌≤◌, ◌<◌}
 use native.Mathlib.Omega.{arith}
 use lib.Dec.{leb, ltb, eqb}
 use lib.ListN.{drop, get_or, length}
+use lib.Seq.{drop-length}
 use borrow.Author.Tests.{ne_eqb, le-leb, lt-leb, lt-ltb, le-ltb, not-true, not-false}
 use Rattle.ground.specs.Lists.{all}
 use Rattle.ground.proofs.Lists.{at_place}
@@ -17,7 +18,7 @@ use Rattle.tables.specs.Layout.{count, word, part, name_at, name_inside}
 use Rattle.tables.specs.Range.{Clamps}
 use Rattle.tables.specs.Kept.{kept}
 use Rattle.tables.specs.Rules.{name_right}
-use Rattle.tables.specs.Right.{right_name, right_own, entity_at, sized}
+use Rattle.tables.specs.Right.{right_name, right_own, right_variable, right_function, entity_at, sized}
 use Rattle.tables.proofs.Ranges.{length_clamped}
 
 -- so many entries from one on are all there
@@ -54,6 +55,20 @@ module _ (w n k : ℕ) (e : k ≡ w) (b : Bool) where
   pub there-no : n ≤ k → false ≡ (ltb w n && b)
   there-no h = rw (le-ltb w n (omega (arith, e)))
 
+-- so a variable or a function is not right whose sort is past the sort rows
+second-no : (a b : Bool) → false ≡ b → false ≡ (a && b)
+second-no a b e = sym (and-false a) ∙ ap (λ (t : Bool). a && t) e
+
+module _ (ws names : List ℕ) (n i : ℕ) where
+  pub variable-past : n ≤ word ws i 2 → false ≡ right_variable ws names n i
+  variable-past h = second-no _ _ (there-no (word ws i 2) n (word ws i 2) refl true h ∙ and-true (ltb (word ws i 2) n))
+
+  pub argument-past : n ≤ word ws i 2 → false ≡ right_function ws names n i
+  argument-past h = second-no _ _ (there-no (word ws i 2) n (word ws i 2) refl (ltb (word ws i 3) n) h)
+
+  pub result-past : n ≤ word ws i 3 → false ≡ right_function ws names n i
+  result-past h = second-no _ _ (second-no _ _ (there-no (word ws i 3) n (word ws i 3) refl true h ∙ and-true (ltb (word ws i 3) n)))
+
 module _ (sorts : List ℕ) (row n : ℕ) (e : n ≡ count sorts) where
   pub entity-past : n ≤ row → false ≡ entity_at sorts row
   entity-past h = rw (le-ltb row (count sorts) (omega (arith, e)))
@@ -61,20 +76,25 @@ module _ (sorts : List ℕ) (row n : ℕ) (e : n ≡ count sorts) where
   pub entity_in : row < n → (k : ℕ) → k ≡ word sorts row 2 → eqb k 9 ≡ entity_at sorts row
   entity_in h k g = rw (lt-ltb row (count sorts) (omega (arith, e)), g)
 
--- std's test of each element
-pub all-list : {A : Type 0} (test : A → Bool) (xs : List A) → list_all test xs ≡ all test xs
-unfolding all
-all-list test [] = refl
-all-list test (x ∷ xs) = ap (λ (t : Bool). test x && t) (all-list test xs)
-
 -- fields that are lower rows
 module _ (fields : List ℕ) (row i : ℕ) where
   abbrev below : ℕ → Bool
   below = λ field. ltb field row
 
-  pub below-no : i < length fields → row ≤ get_or fields i 0 → all below (drop i fields) ≡ false
+  module _ (inside : i < length fields) where
+    below-turn : all below (drop i fields) ≡ (ltb (get_or fields i 0) row && all below (drop (i + 1) fields))
+    unfolding all
+    below-turn = rw (at_place fields i inside)
+
+    pub below-no : row ≤ get_or fields i 0 → all below (drop i fields) ≡ false
+    below-no h = below-turn ∙ ap (λ (t : Bool). t && all below (drop (i + 1) fields)) (le-ltb (get_or fields i 0) row h)
+
+    pub below-yes : get_or fields i 0 < row → all below (drop i fields) ≡ all below (drop (i + 1) fields)
+    below-yes h = below-turn ∙ ap (λ (t : Bool). t && all below (drop (i + 1) fields)) (lt-ltb (get_or fields i 0) row h)
+
+  pub below_end : i ≡ length fields → all below (drop i fields) ≡ true
   unfolding all
-  below-no inside h = rw (at_place fields i inside) (ap (λ (t : Bool). t && all below (drop (i + 1) fields)) (le-ltb (get_or fields i 0) row h))
+  below_end h = rw (h, drop-length fields)
 
 -- the size of a table
 pub table_odd : (ws : List ℕ) → (length ws % 5 ≡ 0 → ⊥) → false ≡ sized ws

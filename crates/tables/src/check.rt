@@ -18,6 +18,8 @@ fn is_table(rows: &[u64]) -> bool
 }
 
 // A table's size, and each of its rows by a test.
+// Inlined before all else, since the test then needs not ask again whether its row is there.
+#[inline(always)]
 fn rows_pass<F: Fn(usize) -> bool>(rows: &[u64], test: F) -> bool
     requires { F.IsAlwaysCallable test }
     ensures { (right : ℕ → Bool) → ((i : ℕ) (r : Bool) → i < count rows.now → F.post test i r → r ≡ right i) → result ≡ table_passes rows.now right }

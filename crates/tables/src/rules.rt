@@ -63,7 +63,12 @@ fn is_text(names: &[u8], first: u64, size: u64) -> bool
 fn are_below(fields: &[u64], row: u64) -> bool
     ensures { result ≡ all (λ field. ltb field row) fields.now }
 {
-    fields.iter().all(|field| *field < row)
+    for field in fields {
+        if row <= *field {
+            return false;
+        }
+    }
+    true
 }
 
 // A record's fields, so many from the first on.

@@ -31,14 +31,15 @@ module _ (low : ℕ) where
         let e : 18446744073709551615 - low ≡ 2 ^ 64 - low - 1 = omega arith in
         to_z-of_z w64 _ low_fits ∙ step ∙ ap negsuc e ∙ sym (minus low (2 ^ 64) fits) ∙ sym (signed_high 64 low h)
 
+    -- the library's cast gives what the steps give
+    pub as-cast : to_z w64 low ≡ to_z w64 (of_z w64 (negsuc 0 -ℤ to_z w64 (18446744073709551615 - low)))
+    as-cast =
+        let below : ℕ = 18446744073709551615 - low in
+        let e : low ≡ 2 ^ 64 - suc below = omega arith in
+        ap (to_z w64) e ∙ to_z-neg w64 below (omega arith) ∙ sym step ∙ sym (to_z-of_z w64 _ low_fits)
+
 signed_word : (low : ℕ) → low < 2 ^ 64 → to_z w64 low ≡ signed 64 low
-signed_word low fits =
-    by_order low (2 ^ 63)
-    (low-positive low)
-    (λ large.
-    let below : ℕ = 2 ^ 64 - low - 1 in
-    let e : low ≡ 2 ^ 64 - suc below = omega arith in
-    ap (to_z w64) e ∙ to_z-neg w64 below (omega arith) ∙ sym (minus low (2 ^ 64) fits) ∙ sym (signed_high 64 low large))
+signed_word low fits = by_order low (2 ^ 63) (low-positive low) (λ large. as-cast low fits large ∙ low-negative low fits large)
 
 pub cast_word : (low : ℕ) (z : ℤ) → low < 2 ^ 64 → z ≡ to_z w64 low → to_z w64 (of_z w64 z) ≡ signed 64 low
 cast_word low z fits e = ap (λ (y : ℤ). to_z w64 (of_z w64 y)) e ∙ ap (to_z w64) (of_z-to_z w64 low fits) ∙ signed_word low fits

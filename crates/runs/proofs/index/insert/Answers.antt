@@ -1,28 +1,17 @@
-use Rattle.std.proofs.Common.{arith}
+use mathlib.Core.Path.{refl, ◌∙◌}
+use native.Mathlib.Omega.{arith}
 use Rattle.runs.proofs.Pairs.{pairs-long}
-use Rattle.runs.proofs.Finds.{inserted}
+use Rattle.runs.proofs.Finds.{shifting_start, shifting_next, shifting_end}
 use Rattle.runs.proofs.index.insert.Goals as goal
 
-pub overflow_mul-at : goal.overflow_mul-at
-overflow_mul-at c = record { fits = omega (arith, pairs-long c.args.index.now) }
+pub loop-i-init : goal.loop-i-init
+loop-i-init c = (refl, shifting_start _ _ _ _ c.requires)
 
-pub overflow_mul-n : goal.overflow_mul-n
-overflow_mul-n c = record { fits = omega (arith, pairs-long c.args.index.now) }
+pub overflow_add-i-end : goal.overflow_add-i-end
+overflow_add-i-end c = record { fits = omega (arith, pairs-long c.args.index.now) }
 
-pub overflow_mul-at-2 : goal.overflow_mul-at-2
-overflow_mul-at-2 c = record { fits = omega (arith, pairs-long c.args.index.now) }
-
-pub overflow_add-at : goal.overflow_add-at
-overflow_add-at c = record { fits = omega (arith, pairs-long c.args.index.now) }
-
-pub copy_within-requires-clause-in_bounds : goal.copy_within-requires-clause-in_bounds
-copy_within-requires-clause-in_bounds c = omega (arith, pairs-long c.args.index.now)
-
-pub copy_within-requires-clause-dest_in_bounds : goal.copy_within-requires-clause-dest_in_bounds
-copy_within-requires-clause-dest_in_bounds c = omega (arith, pairs-long c.args.index.now)
-
-pub set_place-requires : goal.set_place-requires
-set_place-requires c = (omega (arith, pairs-long c.args.index.now, pairs-long c.copy_within.new.self, c.copy_within.ensures.len), c.requires.2)
+pub loop-i-preserved : goal.loop-i-preserved
+loop-i-preserved c = (c.set_place.auto.index ∙ c.loop-i.invariant.0, shifting_next _ _ _ _ _ _ _ _ _ c.loop-i.invariant.1 (omega (arith, c.loop-i-test.true)) c.place-next.ensures.same c.place-next.ensures.small c.set_place.ensures)
 
 pub returns : goal.returns
-returns c = inserted _ _ _ _ c.requires.0 c.requires.1 c.copy_within.ensures.after _ _ c.set_place.ensures
+returns c = shifting_end _ _ _ _ _ _ _ c.loop-i.invariant.1 (omega (arith, c.loop-i-test.false))
